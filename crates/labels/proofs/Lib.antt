@@ -1,0 +1,5 @@
+-- Laws of label lists and of the tests that decide statements about them.
+pub mod Tests
+pub mod Heard
+pub mod Search
+pub mod Best

@@ -1,0 +1,2 @@
+-- What the contracts of the crate `labels` cite.
+pub mod Labels
