@@ -1,2 +1,3 @@
 -- What the contracts of the crate `labels` cite.
 pub mod Labels
+pub mod Permission

@@ -1,0 +1,26 @@
+-- The working space of the line program: 65 by 65 cells of a byte, and after them, for each row, the first row that can still matter when its turn comes.
+use mathlib.Core.Path.{_≡_}
+use mathlib.Core.Logic.{_⊎_}
+use mathlib.Core.List.{List, [], _∷_}
+use Prim.Native.Nat.{ℕ, suc, _+_, _*_, _≤_, _<_}
+use lib.ListN.{length, getD, drop}
+use Rattle.labels.specs.Labels.{at}
+use Rattle.line.specs.Line.{best, rows}
+
+-- cell (a, b): a is the last row on receiver 1 and b on receiver 2, each counted from 1, 0 for none
+abbrev pub cellAt : List ℕ → ℕ → ℕ → ℕ
+cellAt space a b = getD space (a * 65 + b) 0
+
+-- when row a - 1 ends; 0 for none
+abbrev pub endAt : List ℕ → ℕ → ℕ
+endAt ends a = getD (0 ∷ ends) a 0
+
+-- for row k: no row before this one ends after row k starts
+abbrev pub lowAt : List ℕ → ℕ → ℕ
+lowAt space k = getD space (4225 + k) 0
+
+-- the low rows of all rows stand after the cells
+pub record Lows (starts ends space : List ℕ) : Type 0 where
+  pub long : 4608 ≤ length space
+  pub within : (k : ℕ) → k < length starts → lowAt space k ≤ k
+  pub over : (k i : ℕ) → k < length starts → i < lowAt space k → at ends i ≤ at starts k

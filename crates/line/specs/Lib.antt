@@ -1,0 +1,3 @@
+-- What the contracts of the crate `line` cite.
+pub mod Line
+pub mod Cells

@@ -1,0 +1,1 @@
+// The best two-track assignment of arcs under permissions.

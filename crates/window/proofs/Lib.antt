@@ -1,0 +1,2 @@
+-- Laws of windows.
+pub mod Circle

@@ -1,0 +1,2 @@
+-- What the contracts of the crate `window` cite.
+pub mod Ticks
