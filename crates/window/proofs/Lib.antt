@@ -1,2 +1,3 @@
--- Laws of windows.
+-- Laws of ticks and windows.
 pub mod Circle
+pub mod Meaning

@@ -1,2 +1,3 @@
 -- What the contracts of the crate `window` cite.
 pub mod Ticks
+pub mod Windows

@@ -1,6 +1,16 @@
-// Ticks and windows: how far a tick lies after a start, whether a window covers a tick, whether two windows overlap.
+// Ticks and windows: how far a tick lies after a start, whether a window is proper, whether it covers a tick, whether two windows overlap.
 ghost use mathlib.Core.Path.{_≡_};
+ghost use mathlib.Core.Logic.{_↔_};
+ghost use mathlib.Core.Bool.{true};
+ghost use Prim.Native.Nat.{ℕ, _<_};
 ghost use Rattle.window.specs.Ticks.{Ticks, distance};
+ghost use Rattle.window.specs.Windows.{Covers, Overlap, Window, isWindow, covers, overlaps};
+
+// A round is a day that repeats; a run is one stretch of time.
+pub enum Kind {
+    Round,
+    Run,
+}
 
 // How far `tick` lies after `start` on a circle of `ticks` ticks: a comparison and at most two sums, no division.
 pub fn distance(ticks: u16, start: u16, tick: u16) -> u16
@@ -12,4 +22,54 @@ pub fn distance(ticks: u16, start: u16, tick: u16) -> u16
     } else {
         tick + (ticks - start)
     }
+}
+
+// Whether start and end make a window of a round or a run of `ticks` ticks (check 6).
+pub fn is_window(kind: Kind, ticks: u16, start: u16, end: u16) -> bool
+    ensures { λ r. ⌜ r ≡ isWindow kind ticks start end ⌝ }
+{
+    match kind {
+        Kind::Round => {
+            if start < ticks {
+                if end < ticks {
+                    return start != end;
+                }
+            }
+            false
+        }
+        Kind::Run => {
+            if start < end {
+                return end <= ticks;
+            }
+            false
+        }
+    }
+}
+
+// Whether the window covers the tick. Of a window that fails check 6 it is what `covers` computes, and says nothing about ticks.
+pub fn covers_tick(start: u16, end: u16, tick: u16) -> bool
+    ensures computed { λ r. ⌜ r ≡ covers start end tick ⌝ }
+    ensures meaning { λ r. ⌜ ((kind : Kind) (R : ℕ) → Window kind R start end → tick < R → (r ≡ true) ↔ Covers kind R start end tick) ⌝ }
+{
+    if start < end {
+        if start <= tick {
+            return tick < end;
+        }
+        return false;
+    }
+    if start <= tick {
+        return true;
+    }
+    tick < end
+}
+
+// Whether two windows overlap. Of windows that fail check 6 it is what `overlaps` computes, and says nothing about ticks.
+pub fn overlap(start: u16, end: u16, start2: u16, end2: u16) -> bool
+    ensures computed { λ r. ⌜ r ≡ overlaps start end start2 end2 ⌝ }
+    ensures meaning { λ r. ⌜ ((kind : Kind) (R : ℕ) → Window kind R start end → Window kind R start2 end2 → (r ≡ true) ↔ Overlap kind R start end start2 end2) ⌝ }
+{
+    if covers_tick(start, end, start2) {
+        return true;
+    }
+    covers_tick(start2, end2, start)
 }

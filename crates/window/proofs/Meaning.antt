@@ -1,0 +1,236 @@
+-- The tests of windows say what the definitions mean: `covers` the walk over the ticks, `overlaps` that some tick lies in both, `isWindow` what check 6 asks. Run and round together.
+use Prim.Native.Nat.{ℕ, zero, suc, _+_, _-_, _≤_, _<_}
+use mathlib.Core.Path.{_≡_, refl, _∙_, ap, sym}
+use mathlib.Core.Logic.{_≢_, _↔_, _⊎_, inl, inr, ⊎-elim}
+use mathlib.Core.Bool.{Bool, true, false, cond, _&&_, _||_, false≢true, or-true}
+use native.Mathlib.Omega.{arith}
+use native.Mathlib.Nat.{le-of-lt}
+use lib.Dec.{leb, ltb, eqb}
+use borrow.Author.Tests.{leb-true, leb-false, lt-ltb, le-ltb, le-leb, eq-eqb, ne-eqb}
+use Rattle.labels.proofs.Tests.{leb-iff, ltb-iff, eqb-iff, and-iff, not-iff}
+use Rattle.window.specs.declared.Kind.{Kind}
+use Rattle.window.specs.declared.Kind.the-variants.{Round, Run}
+use Rattle.window.specs.Windows.{next, walk, Covers, Overlap, Window, isWindow, covers, overlaps}
+
+-- what a test a ≤ b told
+pub data Test (a b : ℕ) : Bool → Type 0 where
+  pass : a ≤ b → Test a b true
+  fail : b < a → Test a b false
+
+pub test : (a b : ℕ) → Test a b (leb a b)
+test a b = go (leb a b) refl
+  where
+    go : (t : Bool) → leb a b ≡ t → Test a b t
+    go true e = pass (leb-true a b e)
+    go false e = fail (leb-false a b e)
+
+-- ---- check 6
+
+pub window-iff : (kind : Kind) (R s e : ℕ) → (isWindow kind R s e ≡ true) ↔ Window kind R s e
+window-iff Round R s e = (
+  λ h. let f = both .0 h in (f .0 .0, f .0 .1, f .1),
+  λ h. both .1 ((h .0, h .1), h .2),
+)
+  where
+    both : (isWindow Round R s e ≡ true) ↔ (((s < R) × (e < R)) × (s ≢ e))
+    both = and-iff (and-iff (ltb-iff s R) (ltb-iff e R)) (not-iff (eqb-iff s e))
+window-iff Run R s e = and-iff (ltb-iff s e) (leb-iff e R)
+
+pub window-start : (kind : Kind) (R s e : ℕ) → Window kind R s e → s < R
+window-start Round R s e w = w .0
+window-start Run R s e w = omega arith
+
+-- ---- the test `covers`, by cases
+
+-- the three ways for a tick to lie in a window
+pub data In (s e t : ℕ) : Type 0 where
+  plain : s < e → s ≤ t → t < e → In s e t
+  late : e ≤ s → s ≤ t → In s e t
+  early : e ≤ s → t < e → In s e t
+
+pub covers-in : (s e t : ℕ) → covers s e t ≡ true → In s e t
+unfolding covers
+covers-in s e t = go (test (suc s) e) (test s t) (test (suc t) e)
+  where
+    go : {p q r : Bool} → Test (suc s) e p → Test s t q → Test (suc t) e r → cond p (q && r) (q || r) ≡ true → In s e t
+    go (pass f) (pass g) (pass h) x = plain f g h
+    go (pass f) (pass g) (fail h) x = absurd (false≢true x)
+    go (pass f) (fail g) r x = absurd (false≢true x)
+    go (fail f) (pass g) r x = late (omega arith) g
+    go (fail f) (fail g) (pass h) x = early (omega arith) h
+    go (fail f) (fail g) (fail h) x = absurd (false≢true x)
+
+pub in-covers : (s e t : ℕ) → In s e t → covers s e t ≡ true
+unfolding covers
+in-covers s e t (plain f g h) = rw (lt-ltb s e f, le-leb s t g, lt-ltb t e h)
+in-covers s e t (late f g) = rw (le-ltb s e f, le-leb s t g)
+in-covers s e t (early f h) = rw (le-ltb s e f, lt-ltb t e h) (or-true (leb s t))
+
+-- ---- the walk
+
+next-below : (R t : ℕ) → suc t < R → next Round R t ≡ suc t
+next-below R t h = rw (ne-eqb (suc t) R (λ e. omega arith))
+
+next-last : (R t : ℕ) → suc t ≡ R → next Round R t ≡ 0
+next-last R t h = rw (eq-eqb (suc t) R h)
+
+walk-run : (R s k : ℕ) → walk Run R s k ≡ s + k
+walk-run R s zero = omega arith
+walk-run R s (suc k) = omega (arith, walk-run R s k)
+
+-- up to the end of the round the walk counts on,
+walk-on : (R s k : ℕ) → s + k < R → walk Round R s k ≡ s + k
+walk-on R s zero h = omega arith
+walk-on R s (suc k) h = ap (next Round R) (walk-on R s k (omega arith)) ∙ next-below R (s + k) (omega arith) ∙ omega arith
+
+-- and then from 0
+walk-past : (R s j : ℕ) → s < R → j < R → walk Round R s (j + (R - s)) ≡ j
+walk-past R s zero h l = go (R - s) refl
+  where
+    go : (d : ℕ) → R - s ≡ d → walk Round R s (0 + d) ≡ 0
+    go zero e = absurd (omega arith)
+    go (suc d) e =
+        let z : 0 + suc d ≡ suc d = omega arith in
+        rw z (ap (next Round R) (walk-on R s d (omega arith)) ∙ next-last R (s + d) (omega arith))
+walk-past R s (suc j) h l =
+    let z : suc j + (R - s) ≡ suc (j + (R - s)) = omega arith in
+    rw z (ap (next Round R) (walk-past R s j h (omega arith)) ∙ next-below R j l)
+
+-- up to the end of a window that does not wrap the walk counts on, in a run and in a round
+straight : (kind : Kind) (R s e : ℕ) → Window kind R s e → (k : ℕ) → s + k ≤ e → walk kind R s k ≡ s + k
+straight Round R s e w k h = walk-on R s k (omega arith)
+straight Run R s e w k h = walk-run R s k
+
+-- a window that wraps, as only in a round
+module _ (R s e : ℕ) (w : Window Round R s e) {t : ℕ} (ht : t < R) (h : e ≤ s) where
+  wrap-there : In s e t → Covers Round R s e t
+  wrap-there (plain f g l) = absurd (omega arith)
+  wrap-there (late f g) =
+      record {
+        steps = t - s;
+        reached = walk-on R s (t - s) (omega arith) ∙ omega arith;
+        before = λ k l. omega (arith, walk-on R s k (omega arith), w .2);
+      }
+  wrap-there (early f g) =
+      record {
+        steps = t + (R - s);
+        reached = walk-past R s t (w .0) ht;
+        before = λ k l. go k l (test (R - s) k);
+      }
+    where
+      go : (k : ℕ) {b : Bool} → k ≤ t + (R - s) → Test (R - s) k b → walk Round R s k ≢ e
+      go k l (pass m) q =
+          let p : walk Round R s (k - (R - s) + (R - s)) ≡ k - (R - s) = walk-past R s (k - (R - s)) (w .0) (omega arith) in
+          let z : k - (R - s) + (R - s) ≡ k = omega arith in
+          omega (arith, sym (ap (walk Round R s) z) ∙ p)
+      go k l (fail m) q = omega (arith, walk-on R s k (omega arith), w .2)
+
+  wrap-back : Covers Round R s e t → In s e t
+  wrap-back x = go (test (R - s) (x .steps))
+    where
+      past : x .steps < e + (R - s) → R - s ≤ x .steps → In s e t
+      past l m =
+          let p : walk Round R s (x .steps - (R - s) + (R - s)) ≡ x .steps - (R - s) = walk-past R s (x .steps - (R - s)) (w .0) (omega arith) in
+          let z : x .steps - (R - s) + (R - s) ≡ x .steps = omega arith in
+          early h (omega (arith, sym (ap (walk Round R s) z) ∙ p, x .reached))
+
+      bounded : {b : Bool} → R - s ≤ x .steps → Test (e + (R - s)) (x .steps) b → In s e t
+      bounded m (pass l) = absurd (x .before (e + (R - s)) l (walk-past R s e (w .0) (w .1)))
+      bounded m (fail l) = past l m
+
+      go : {b : Bool} → Test (R - s) (x .steps) b → In s e t
+      go (pass m) = bounded m (test (e + (R - s)) (x .steps))
+      go (fail m) = late h (omega (arith, walk-on R s (x .steps) (omega arith), x .reached))
+
+-- a window that does not wrap
+module _ (kind : Kind) (R s e : ℕ) (w : Window kind R s e) {t : ℕ} (h : s < e) where
+  straight-there : In s e t → Covers kind R s e t
+  straight-there (plain f g l) =
+      record {
+        steps = t - s;
+        reached = straight kind R s e w (t - s) (omega arith) ∙ omega arith;
+        before = λ k m. omega (arith, straight kind R s e w k (omega arith));
+      }
+  straight-there (late f g) = absurd (omega arith)
+  straight-there (early f g) = absurd (omega arith)
+
+  straight-back : Covers kind R s e t → In s e t
+  straight-back x = go (test (e - s) (x .steps))
+    where
+      go : {b : Bool} → Test (e - s) (x .steps) b → In s e t
+      go (pass l) = absurd (x .before (e - s) l (straight kind R s e w (e - s) (omega arith) ∙ omega arith))
+      go (fail l) = plain h (omega (arith, straight kind R s e w (x .steps) (omega arith), x .reached)) (omega (arith, straight kind R s e w (x .steps) (omega arith), x .reached))
+
+in-iff : (kind : Kind) (R s e : ℕ) → Window kind R s e → {t : ℕ} → t < R → In s e t ↔ Covers kind R s e t
+in-iff kind R s e w {t} ht = go kind w (test (suc s) e)
+  where
+    go : (kind : Kind) → Window kind R s e → {b : Bool} → Test (suc s) e b → In s e t ↔ Covers kind R s e t
+    go kind w (pass h) = (straight-there kind R s e w h, straight-back kind R s e w h)
+    go Round w (fail h) = (wrap-there R s e w ht (omega arith), wrap-back R s e w ht (omega arith))
+    go Run w (fail h) = absurd (omega arith)
+
+pub covers-iff : (kind : Kind) (R s e : ℕ) → Window kind R s e → (t : ℕ) → t < R → (covers s e t ≡ true) ↔ Covers kind R s e t
+covers-iff kind R s e w t h = (λ x. in-iff kind R s e w h .0 (covers-in s e t x), λ x. in-covers s e t (in-iff kind R s e w h .1 x))
+
+-- ---- overlap
+
+start-in : (s e : ℕ) → In s e s
+start-in s e = go (test (suc s) e)
+  where
+    go : {p : Bool} → Test (suc s) e p → In s e s
+    go (pass h) = plain h (omega arith) h
+    go (fail h) = late (omega arith) (omega arith)
+
+-- windows that share a tick: one of them has the other's start
+meet : {s e s′ e′ t : ℕ} → s ≤ s′ → In s e t → In s′ e′ t → In s e s′ ⊎ In s′ e′ s
+meet le (plain f g h) (plain f′ g′ h′) = inl (plain f le (omega arith))
+meet le (plain f g h) (late f′ g′) = inl (plain f le (omega arith))
+meet le (plain f g h) (early f′ h′) = inr (early f′ (omega arith))
+meet le (late f g) y = inl (late f le)
+meet le (early f h) y = inl (late f le)
+
+share : {s e s′ e′ t : ℕ} → In s e t → In s′ e′ t → In s e s′ ⊎ In s′ e′ s
+share {s} {e} {s′} {e′} x y = go (test s s′)
+  where
+    go : {p : Bool} → Test s s′ p → In s e s′ ⊎ In s′ e′ s
+    go (pass h) = meet h x y
+    go (fail h) = ⊎-elim inr inl (meet (le-of-lt h) y x)
+
+or-cases : (x y : Bool) → (x || y) ≡ true → (x ≡ true) ⊎ (y ≡ true)
+or-cases true y e = inl refl
+or-cases false y e = inr e
+
+pub overlaps-iff : (kind : Kind) (R s e s′ e′ : ℕ) → Window kind R s e → Window kind R s′ e′ → (overlaps s e s′ e′ ≡ true) ↔ Overlap kind R s e s′ e′
+unfolding overlaps
+overlaps-iff kind R s e s′ e′ v w = (there, back)
+  where
+    below : s < R
+    below = window-start kind R s e v
+
+    below′ : s′ < R
+    below′ = window-start kind R s′ e′ w
+
+    covers-start : (x y : ℕ) → Window kind R x y → x < R → Covers kind R x y x
+    covers-start x y u h = in-iff kind R x y u h .0 (start-in x y)
+
+    there : covers s e s′ || covers s′ e′ s ≡ true → Overlap kind R s e s′ e′
+    there x = ⊎-elim
+        (λ h. record { tick = s′; below = below′; in-first = covers-iff kind R s e v s′ below′ .0 h; in-second = covers-start s′ e′ w below′ })
+        (λ h. record { tick = s; below = below; in-first = covers-start s e v below; in-second = covers-iff kind R s′ e′ w s below .0 h })
+        (or-cases (covers s e s′) (covers s′ e′ s) x)
+
+    back : Overlap kind R s e s′ e′ → covers s e s′ || covers s′ e′ s ≡ true
+    back o = ⊎-elim
+        (λ h. rw (in-covers s e s′ h) refl)
+        (λ h. rw (in-covers s′ e′ s h) (or-true (covers s e s′)))
+        (share (in-iff kind R s e v (o .below) .1 (o .in-first)) (in-iff kind R s′ e′ w (o .below) .1 (o .in-second)))
+
+-- ---- what the functions promise, from what they compute
+
+pub covers-said : (r : Bool) (s e t : ℕ) → r ≡ covers s e t
+    → (r ≡ covers s e t) × ((kind : Kind) (R : ℕ) → Window kind R s e → t < R → (r ≡ true) ↔ Covers kind R s e t)
+covers-said r s e t q = (q, λ kind R w h. rw q (covers-iff kind R s e w t h))
+
+pub overlaps-said : (r : Bool) (s e s′ e′ : ℕ) → r ≡ overlaps s e s′ e′
+    → (r ≡ overlaps s e s′ e′) × ((kind : Kind) (R : ℕ) → Window kind R s e → Window kind R s′ e′ → (r ≡ true) ↔ Overlap kind R s e s′ e′)
+overlaps-said r s e s′ e′ q = (q, λ kind R v w. rw q (overlaps-iff kind R s e s′ e′ v w))

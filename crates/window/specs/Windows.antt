@@ -1,0 +1,53 @@
+-- Windows of a round or a run of R ticks: which ticks a window covers, and when two windows overlap (paper 01, "Ticks and windows"), for both kinds together.
+use Prim.Native.Nat.{ℕ, zero, suc, _≤_, _<_}
+use mathlib.Core.Path.{_≡_}
+use mathlib.Core.Logic.{_≢_}
+use mathlib.Core.Bool.{Bool, cond, not, _&&_, _||_}
+use lib.Dec.{leb, ltb, eqb}
+use Rattle.window.specs.declared.Kind.{Kind}
+use Rattle.window.specs.declared.Kind.the-variants.{Round, Run}
+
+-- ---- the meaning
+
+-- the tick after t: in a round "going from R−1 to 0"
+abbrev pub next : Kind → ℕ → ℕ → ℕ
+next Round R t = cond (eqb (suc t) R) 0 (suc t)
+next Run R t = suc t
+
+-- the tick k steps after s
+abbrev pub walk : Kind → ℕ → ℕ → ℕ → ℕ
+walk kind R s zero = s
+walk kind R s (suc k) = next kind R (walk kind R s k)
+
+-- "The window covers start, start+1 and so on, going from R−1 to 0, up to the tick before end"; in a run "start to end−1": walking on from start, the tick t is reached before end is.
+pub record Covers (kind : Kind) (R start end t : ℕ) : Type 0 where
+  pub steps : ℕ
+  pub reached : walk kind R start steps ≡ t
+  pub before : (k : ℕ) → k ≤ steps → walk kind R start k ≢ end
+
+-- "Two windows overlap exactly if some tick lies in both."
+pub record Overlap (kind : Kind) (R s e s′ e′ : ℕ) : Type 0 where
+  pub tick : ℕ
+  pub below : tick < R
+  pub in-first : Covers kind R s e tick
+  pub in-second : Covers kind R s′ e′ tick
+
+-- What check 6 asks: in a round "start and end are both below R and differ"; in a run "start is below end and end is at most R".
+abbrev pub Window : Kind → ℕ → ℕ → ℕ → Type 0
+Window Round R s e = (s < R) × (e < R) × (s ≢ e)
+Window Run R s e = (s < e) × (e ≤ R)
+
+-- ---- the tests: total, and right for windows that pass check 6 (proofs/Meaning.antt)
+
+abbrev pub isWindow : Kind → ℕ → ℕ → ℕ → Bool
+isWindow Round R s e = ltb s R && ltb e R && not (eqb s e)
+isWindow Run R s e = ltb s e && leb e R
+
+-- at or after start and before end; where the end comes first, as only in a round, one of the two is enough
+unfoldable pub covers : ℕ → ℕ → ℕ → Bool
+covers s e t = cond (ltb s e) (leb s t && ltb t e) (leb s t || ltb t e)
+
+-- one of the two windows covers the other's start
+unfoldable pub overlaps : ℕ → ℕ → ℕ → ℕ → Bool
+unfolding covers
+overlaps s e s′ e′ = covers s e s′ || covers s′ e′ s
