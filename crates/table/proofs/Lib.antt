@@ -1,0 +1,2 @@
+-- Theorems about tables, plans and the right answer.
+pub mod Bench

@@ -1,0 +1,67 @@
+-- The right answer of a planner call, whole: refusal, count, labels and working space, on every input. It speaks of plans, and says nothing of how one is found.
+use Prim.Native.Nat.{ℕ}
+use mathlib.Core.Bool.{Bool, true, false, _||_}
+use mathlib.Core.List.{List, _++_}
+use mathlib.Core.Option.{Option, none, some}
+use lib.Dec.{leb, eqb}
+use lib.ListN.{length, drop, replicate}
+use Rattle.labels.specs.Labels.{heard, firstBest}
+use Rattle.table.specs.declared.Refusal.{Refusal}
+use Rattle.table.specs.declared.Refusal.the-variants.{Accepted, Space, NoPlan}
+use Rattle.table.specs.declared.Answer.{Answer}
+use Rattle.table.specs.Refusals.{numberOf, asked, _then_}
+use Rattle.table.specs.Tables.{Table, rows, isPlan}
+use Rattle.table.specs.Checks.{listsRefusal, tableLooked}
+
+-- the working space that the planner needs and clears, in bytes
+unfoldable pub spaceBytes : ℕ
+spaceBytes = 16384
+
+-- "3: working space shorter than 16,384 bytes"
+unfoldable pub spaceRefusal : ℕ → Refusal
+unfolding spaceBytes
+spaceRefusal n = asked (leb spaceBytes n) Space
+
+-- "Planner's order: 1, 2, 3, 4, 5, then rows from 0, each for 6 and then 7"
+unfoldable pub checked : Table → List ℕ → ℕ → Refusal
+unfolding listsRefusal spaceRefusal tableLooked
+checked t labels space =
+    listsRefusal (rows t) (length (t .ends)) (length (t .marks)) (length labels)
+    then spaceRefusal space
+    then tableLooked t .refusal
+
+-- "The planner gives a plan with the most heard rows. Among those .. the earliest is given."
+unfoldable pub bestPlan : Table → Option (List ℕ)
+unfolding firstBest isPlan
+bestPlan t = firstBest (rows t) (isPlan t)
+
+-- what a call gives: its answer, and what the label list then holds
+pub record Planned : Type 0 where
+  pub answer : Answer
+  pub labels : List ℕ
+
+-- "8: no plan exists"; a plan "reports the count" and "fills the labels"
+unfoldable pub given : Option (List ℕ) → List ℕ → Planned
+unfolding heard
+given none before = record { answer = record { refusal = NoPlan; count = 0 }; labels = before }
+given (some plan) before = record { answer = record { refusal = Accepted; count = heard plan }; labels = plan }
+
+abbrev pub decide : Bool → Planned → Planned → Planned
+decide true a b = a
+decide false a b = b
+
+-- The planner's answer for a table, a label list that held `before`, and working space of so many bytes. "The first that applies is reported, with count 0. Outputs .. are untouched."
+unfoldable pub planned : Table → List ℕ → ℕ → Planned
+unfolding checked bestPlan given
+planned t before space =
+    decide (eqb (numberOf (checked t before space)) 0)
+    (given (bestPlan t) before)
+    (record { answer = record { refusal = checked t before space; count = 0 }; labels = before })
+
+abbrev pub pickList : Bool → List ℕ → List ℕ → List ℕ
+pickList true a b = a
+pickList false a b = b
+
+-- What the working space holds after a call with this refusal: an accepted call "clears to zero the first 16,384 bytes"; "Bytes beyond are untouched"; "8 clears the same 16,384 bytes"; otherwise it is untouched.
+unfoldable pub spaceAfter : Refusal → List ℕ → List ℕ
+spaceAfter r space = pickList (eqb (numberOf r) 0 || eqb (numberOf r) 8) (replicate spaceBytes 0 ++ drop spaceBytes space) space

@@ -1,0 +1,137 @@
+// The checks of a table, in paper 01's order. Each says exactly what comes out for every input of every length.
+ghost use mathlib.Core.Path.{_≡_};
+ghost use Rattle.table.specs.Tables.{table};
+ghost use Rattle.table.specs.Checks.{listsRefusal, ticksRefusal, hoursRefusal, settingRefusal, rowRefusal, rowsLooked, tableLooked};
+
+use crate::Looked;
+use crate::Refusal;
+use window::Kind;
+
+// Checks 1 and 2, by the lengths of the four lists.
+pub fn check_lists(starts: usize, ends: usize, marks: usize, labels: usize) -> Refusal
+    ensures { λ r. ⌜ r ≡ listsRefusal starts ends marks labels ⌝ }
+{
+    if ends != starts {
+        return Refusal::Lists;
+    }
+    if marks != starts {
+        return Refusal::Lists;
+    }
+    if labels != starts {
+        return Refusal::Lists;
+    }
+    if 64 < starts {
+        return Refusal::Rows;
+    }
+    Refusal::Accepted
+}
+
+// Check 4.
+pub fn check_ticks(ticks: u16) -> Refusal
+    ensures { λ r. ⌜ r ≡ ticksRefusal ticks ⌝ }
+{
+    if ticks < 2 {
+        return Refusal::Ticks;
+    }
+    if 43200 < ticks {
+        return Refusal::Ticks;
+    }
+    Refusal::Accepted
+}
+
+// Check 5.
+pub fn check_hours(kind: Kind, ticks: u16, hours: [[u16; 2]; 2]) -> Refusal
+    ensures { λ r. ⌜ r ≡ hoursRefusal kind ticks hours ⌝ }
+{
+    if let Kind::Round = kind {
+        return Refusal::Accepted;
+    }
+    if hours[0][1] < hours[0][0] {
+        return Refusal::Hours;
+    }
+    if ticks < hours[0][1] {
+        return Refusal::Hours;
+    }
+    if hours[1][1] < hours[1][0] {
+        return Refusal::Hours;
+    }
+    if ticks < hours[1][1] {
+        return Refusal::Hours;
+    }
+    Refusal::Accepted
+}
+
+// Checks 4 and 5.
+pub fn check_setting(kind: Kind, ticks: u16, hours: [[u16; 2]; 2]) -> Refusal
+    ensures { λ r. ⌜ r ≡ settingRefusal kind ticks hours ⌝ }
+{
+    let refusal = check_ticks(ticks);
+    if crate::number(refusal) != 0 {
+        return refusal;
+    }
+    check_hours(kind, ticks, hours)
+}
+
+// Checks 6 and 7 of one row.
+pub fn check_row(kind: Kind, ticks: u16, start: u16, end: u16, mark: u8) -> Refusal
+    ensures { λ r. ⌜ r ≡ rowRefusal kind ticks start end mark ⌝ }
+{
+    if !window::is_window(kind, ticks, start, end) {
+        return Refusal::Window;
+    }
+    if 1 < mark {
+        return Refusal::Mark;
+    }
+    Refusal::Accepted
+}
+
+// Checks 6 and 7 of the rows from 0, as far as the first refusal. Lists of unequal length are refused before any row is looked at.
+pub fn check_rows(kind: Kind, ticks: u16, starts: &[u16], ends: &[u16], marks: &[u8]) -> Looked
+    ensures { λ r. ⌜ r ≡ rowsLooked kind ticks (now (starts .entry)) (now (ends .entry)) (now (marks .entry)) ⌝ }
+{
+    if ends.len() != starts.len() {
+        return Looked {
+            refusal: Refusal::Lists,
+            rows: 0,
+        };
+    }
+    if marks.len() != starts.len() {
+        return Looked {
+            refusal: Refusal::Lists,
+            rows: 0,
+        };
+    }
+    let mut i = 0;
+    while i < starts.len() {
+        let refusal = check_row(kind, ticks, starts[i], ends[i], marks[i]);
+        if crate::number(refusal) != 0 {
+            return Looked {
+                refusal,
+                rows: i + 1,
+            };
+        }
+        i += 1;
+    }
+    Looked {
+        refusal: Refusal::Accepted,
+        rows: i,
+    }
+}
+
+// Checks 4 and 5, and then the rows for 6 and 7.
+pub fn check_table(
+    kind: Kind,
+    ticks: u16,
+    hours: [[u16; 2]; 2],
+    starts: &[u16],
+    ends: &[u16],
+    marks: &[u8],
+) -> Looked
+    ensures { λ r. ⌜ r ≡ tableLooked (table kind ticks hours (now (starts .entry)) (now (ends .entry)) (now (marks .entry))) ⌝ }
+{
+    let refusal = check_setting(kind, ticks, hours);
+    if crate::number(refusal) != 0 {
+        return Looked { refusal, rows: 0 };
+    }
+    check_rows(kind, ticks, starts, ends, marks)
+}
