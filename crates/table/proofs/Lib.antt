@@ -1,2 +1,4 @@
 -- Theorems about tables, plans and the right answer.
 pub mod Bench
+pub mod Looking
+pub mod Testing

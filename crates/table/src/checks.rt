@@ -1,7 +1,8 @@
 // The checks of a table, in paper 01's order. Each says exactly what comes out for every input of every length.
 ghost use mathlib.Core.Path.{_≡_};
+ghost use Prim.Native.Nat.{_<_};
 ghost use Rattle.table.specs.Tables.{table};
-ghost use Rattle.table.specs.Checks.{listsRefusal, ticksRefusal, hoursRefusal, settingRefusal, rowRefusal, rowsLooked, tableLooked};
+ghost use Rattle.table.specs.Checks.{listsRefusal, ticksRefusal, isHours, hoursRefusal, settingRefusal, rowRefusal, rowsLooked, tableLooked};
 
 use crate::Looked;
 use crate::Refusal;
@@ -39,6 +40,17 @@ pub fn check_ticks(ticks: u16) -> Refusal
     Refusal::Accepted
 }
 
+// Whether the receiver's open hours are in order and within the ticks.
+fn is_hours(hours: [[u16; 2]; 2], ticks: u16, receiver: usize) -> bool
+    requires { ⌜ receiver < 2 ⌝ }
+    ensures { λ r. ⌜ r ≡ isHours hours ticks receiver ⌝ }
+{
+    if hours[receiver][0] <= hours[receiver][1] {
+        return hours[receiver][1] <= ticks;
+    }
+    false
+}
+
 // Check 5.
 pub fn check_hours(kind: Kind, ticks: u16, hours: [[u16; 2]; 2]) -> Refusal
     ensures { λ r. ⌜ r ≡ hoursRefusal kind ticks hours ⌝ }
@@ -46,16 +58,10 @@ pub fn check_hours(kind: Kind, ticks: u16, hours: [[u16; 2]; 2]) -> Refusal
     if let Kind::Round = kind {
         return Refusal::Accepted;
     }
-    if hours[0][1] < hours[0][0] {
+    if !is_hours(hours, ticks, 0) {
         return Refusal::Hours;
     }
-    if ticks < hours[0][1] {
-        return Refusal::Hours;
-    }
-    if hours[1][1] < hours[1][0] {
-        return Refusal::Hours;
-    }
-    if ticks < hours[1][1] {
+    if !is_hours(hours, ticks, 1) {
         return Refusal::Hours;
     }
     Refusal::Accepted

@@ -1,27 +1,28 @@
+-- `table::checks::check_lists` meets its contract: each way is a way to compute `listsRefusal`.
+use Rattle.table.specs.Checks.{listsRefusal}
+use borrow.Author.Tests.{eq-eqb, ne-eqb, le-leb, lt-leb}
 use Rattle.table.proofs.checks.check_lists.Statement.{statement}
 use Rattle.table.proofs.checks.check_lists.Tie as tie
-use Rattle.table.proofs.checks.check_lists.Reads as reads
-use Rattle.table.proofs.checks.check_lists.Lts as lts
 
--- src/checks.rt:15:9
 returns : tie.Need-returns
-returns c = ?
+unfolding listsRefusal
+returns c = simp (ne-eqb _ _ (c .if1 .taken))
 
--- src/checks.rt:18:9
 returns-2 : tie.Need-returns-2
-returns-2 c = ?
+unfolding listsRefusal
+returns-2 c = simp (eq-eqb _ _ (c .before .if1 .left), ne-eqb _ _ (c .if2 .taken))
 
--- src/checks.rt:21:9
 returns-3 : tie.Need-returns-3
-returns-3 c = ?
+unfolding listsRefusal
+returns-3 c = simp (eq-eqb _ _ (c .before .before .if1 .left), eq-eqb _ _ (c .before .if2 .left), ne-eqb _ _ (c .if3 .taken))
 
--- src/checks.rt:24:9
 returns-4 : tie.Need-returns-4
-returns-4 c = ?
+unfolding listsRefusal
+returns-4 c = simp (eq-eqb _ _ (c .before .before .before .if1 .left), eq-eqb _ _ (c .before .before .if2 .left), eq-eqb _ _ (c .before .if3 .left), lt-leb _ _ (c .if4 .taken))
 
--- src/checks.rt:11:1
 returns-5 : tie.Need-returns-5
-returns-5 c = ?
+unfolding listsRefusal
+returns-5 c = simp (eq-eqb _ _ (c .before .before .before .if1 .left), eq-eqb _ _ (c .before .before .if2 .left), eq-eqb _ _ (c .before .if3 .left), le-leb _ _ (c .if4 .left))
 
 pub check-lists-spec : {M : Type 1} → statement M
 check-lists-spec = tie.close (tie.spec returns returns-2 returns-3 returns-4 returns-5)

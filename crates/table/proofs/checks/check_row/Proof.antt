@@ -1,25 +1,25 @@
+-- `table::checks::check_row` meets its contract.
+use Rattle.table.specs.Checks.{rowRefusal}
+use borrow.Author.Tests.{not-true, not-false, le-leb, lt-leb}
+use mathlib.Core.Path.{sym}
 use borrow.Author.Needs.{needs}
 use Rattle.table.proofs.checks.check_row.Statement.{statement}
 use Rattle.table.proofs.checks.check_row.Tie as tie
-use Rattle.table.proofs.checks.check_row.Reads as reads
-use Rattle.table.proofs.checks.check_row.Lts as lts
-use Rattle.window.proofs.is_window.Reads as is-window-reads
 
--- src/checks.rt:79:9
 is-window-requires : tie.Need-is-window-requires
 is-window-requires c κs = search needs
 
--- src/checks.rt:80:9
 returns : tie.Need-returns
-returns c = ?
+unfolding rowRefusal
+returns c = simp (sym (c .before .is-window .ensures), not-true (c .before .is-window .result) (c .if1 .taken))
 
--- src/checks.rt:83:9
 returns-2 : tie.Need-returns-2
-returns-2 c = ?
+unfolding rowRefusal
+returns-2 c = simp (sym (c .before .before .is-window .ensures), not-false (c .before .before .is-window .result) (c .before .if1 .left), lt-leb _ _ (c .if2 .taken))
 
--- src/checks.rt:76:1
 returns-3 : tie.Need-returns-3
-returns-3 c = ?
+unfolding rowRefusal
+returns-3 c = simp (sym (c .before .before .is-window .ensures), not-false (c .before .before .is-window .result) (c .before .if1 .left), le-leb _ _ (c .if2 .left))
 
 pub check-row-spec : {M : Type 1} → statement M
 check-row-spec = tie.close (tie.spec is-window-requires returns returns-2 returns-3)

@@ -1,79 +1,73 @@
+-- `table::checks::check_rows` meets its contract: while it goes on, the rows from i on are still to be looked at.
+use Rattle.table.proofs.Looking.{Ahead, uneven-ends, uneven-marks, ahead-all, ahead-refused, ahead-more, ahead-done}
+use Rattle.table.specs.Refusals.{numberOf}
+use lib.ListN.{length}
+use borrow.Author.Needs.{needs}
+use native.Mathlib.Omega.{arith}
+use mathlib.Core.Path.{_≡_, _∙_, sym, ap}
+use Prim.Native.Nat.{_≤_, _-_}
 use Rattle.table.proofs.checks.check_rows.Statement.{statement}
 use Rattle.table.proofs.checks.check_rows.Tie as tie
-use Rattle.table.proofs.checks.check_rows.Reads as reads
-use Rattle.table.proofs.checks.check_rows.Lts as lts
-use Rattle.table.proofs.checks.check_row.Reads as check-row-reads
-use Rattle.table.proofs.number.Reads as number-reads
 
 abbrev Inv-loop : tie.InvT-loop
-Inv-loop kind ticks starts ends marks i₀ i = ?
+Inv-loop kind ticks starts ends marks i₀ i = (i ≤ length starts) × (length ends ≡ length starts) × (length marks ≡ length starts) × Ahead kind ticks starts ends marks i
 
 abbrev μ-loop : tie.MeasureT-loop
-μ-loop kind ticks starts ends marks i₀ i = ?
+μ-loop kind ticks starts ends marks i₀ i = length starts - i
 
--- src/checks.rt:93:9
 returns : tie.Need-returns Inv-loop μ-loop
-returns c = ?
+returns c = uneven-ends _ _ _ _ _ (c .if1 .taken)
 
--- src/checks.rt:99:9
 returns-2 : tie.Need-returns-2 Inv-loop μ-loop
-returns-2 c = ?
+returns-2 c = uneven-marks _ _ _ _ _ (c .before .if1 .left) (c .if2 .taken)
 
--- src/checks.rt:105:5
 loop-holds : tie.Need-loop-holds Inv-loop μ-loop
-loop-holds c = ?
+loop-holds c = (omega arith, c .before .if1 .left, c .if2 .left, ahead-all _ _ _ _ _ (c .before .if1 .left) (c .if2 .left))
 
--- src/checks.rt:106:46
 mul-check-row : tie.Need-mul-check-row Inv-loop μ-loop
-mul-check-row c = ?
+mul-check-row c = omega arith
 
--- src/checks.rt:106:46
 shared-slice-read-check-row : tie.Need-shared-slice-read-check-row Inv-loop μ-loop
-shared-slice-read-check-row c = ?
+shared-slice-read-check-row c = omega arith
 
--- src/checks.rt:106:57
 mul-check-row-2 : tie.Need-mul-check-row-2 Inv-loop μ-loop
-mul-check-row-2 c = ?
+mul-check-row-2 c = omega arith
 
--- src/checks.rt:106:57
 shared-slice-read-check-row-2 : tie.Need-shared-slice-read-check-row-2 Inv-loop μ-loop
-shared-slice-read-check-row-2 c = ?
+shared-slice-read-check-row-2 c = omega arith
 
--- src/checks.rt:106:66
 shared-slice-read-check-row-3 : tie.Need-shared-slice-read-check-row-3 Inv-loop μ-loop
-shared-slice-read-check-row-3 c = ?
+shared-slice-read-check-row-3 c = omega arith
 
--- src/checks.rt:106:13
 check-row-requires : tie.Need-check-row-requires Inv-loop μ-loop
-check-row-requires c κs = ?
+check-row-requires c κs = search needs
 
--- src/checks.rt:107:12
 number-requires : tie.Need-number-requires Inv-loop μ-loop
-number-requires c κs = ?
+number-requires c κs = search needs
 
--- src/checks.rt:110:23
 add-t22 : tie.Need-add-t22 Inv-loop μ-loop
-add-t22 c = ?
+add-t22 c = omega arith
 
--- src/checks.rt:108:13
 returns-3 : tie.Need-returns-3 Inv-loop μ-loop
-returns-3 c = ?
+returns-3 c = 
+    let l = c .before .before .before .before .before .before .before .loop in
+    let r = c .before .before .check-row in
+    ahead-refused _ _ _ _ _ (l .i) (r .result) (omega arith) (l .inv .3) (r .ensures) (λ e. c .if3 .taken (c .before .number .ensures ∙ e))
 
--- src/checks.rt:113:9
 add-i : tie.Need-add-i Inv-loop μ-loop
-add-i c = ?
+add-i c = omega arith
 
--- src/checks.rt:105:5
 loop-less : tie.Need-loop-less Inv-loop μ-loop
-loop-less c = ?
+loop-less c = omega arith
 
--- src/checks.rt:105:5
 loop-again : tie.Need-loop-again Inv-loop μ-loop
-loop-again c = ?
+loop-again c = 
+    let l = c .before .before .before .before .before .before .before .loop in
+    let r = c .before .before .check-row in
+    (omega arith, l .inv .1, l .inv .2, ahead-more _ _ _ _ _ (l .i) (omega arith) (l .inv .3) (sym (ap numberOf (r .ensures)) ∙ sym (c .before .number .ensures) ∙ c .if3 .left))
 
--- src/checks.rt:89:1
 returns-4 : tie.Need-returns-4 Inv-loop μ-loop
-returns-4 c = ?
+returns-4 c = ahead-done _ _ _ _ _ _ (c .loop-test .left) (c .before .loop .inv .3)
 
 pub check-rows-spec : {M : Type 1} → statement M
 check-rows-spec =

@@ -1,25 +1,21 @@
+-- `table::plan::is_allowed` meets its contract.
+use Rattle.table.proofs.Testing.{allowed-past, allowed-none, allowed-heard}
+use mathlib.Core.Path.{_∙_}
 use borrow.Author.Needs.{needs}
 use Rattle.table.proofs.plan.is_allowed.Statement.{statement}
 use Rattle.table.proofs.plan.is_allowed.Tie as tie
-use Rattle.table.proofs.plan.is_allowed.Reads as reads
-use Rattle.table.proofs.plan.is_allowed.Lts as lts
-use Rattle.table.proofs.plan.is_open.Reads as is-open-reads
 
--- src/plan.rt:33:9
 returns : tie.Need-returns
-returns c = ?
+returns c = allowed-past _ _ _ _ _ _ (c .if1 .taken)
 
--- src/plan.rt:36:9
 returns-2 : tie.Need-returns-2
-returns-2 c = ?
+returns-2 c = allowed-none _ _ _ _ _ _ (c .if2 .taken)
 
--- src/plan.rt:38:5
 is-open-requires : tie.Need-is-open-requires
 is-open-requires c κs = search needs
 
--- src/plan.rt:29:1
 returns-3 : tie.Need-returns-3
-returns-3 c = ?
+returns-3 c = c .is-open .ensures ∙ allowed-heard _ _ _ _ _ _ (c .before .before .if1 .left) (c .before .if2 .left)
 
 pub is-allowed-spec : {M : Type 1} → statement M
 is-allowed-spec = tie.close (tie.spec returns returns-2 is-open-requires returns-3)

@@ -1,42 +1,51 @@
+-- `table::plan::is_apart_before` meets its contract: the rows passed are apart from row i.
+use Rattle.table.proofs.Testing.{every-more, every-fails}
+use Rattle.table.specs.Tables.{isApart}
+use Rattle.labels.specs.Labels.{every}
+use borrow.Author.Tests.{not-true, not-false}
+use native.Mathlib.Omega.{arith}
+use mathlib.Core.Bool.{true}
+use mathlib.Core.Path.{_≡_, refl, sym, _∙_}
+use Prim.Native.Nat.{_≤_, _-_}
 use Rattle.table.proofs.plan.is_apart_before.Statement.{statement}
 use Rattle.table.proofs.plan.is_apart_before.Tie as tie
-use Rattle.table.proofs.plan.is_apart_before.Reads as reads
-use Rattle.table.proofs.plan.is_apart_before.Lts as lts
-use Rattle.table.proofs.plan.is_apart.Reads as is-apart-reads
 
 abbrev Inv-loop : tie.InvT-loop
-Inv-loop starts ends labels i j₀ j = ?
+Inv-loop starts ends labels i j₀ j = (j ≤ i) × (every j (isApart starts ends labels i) ≡ true)
 
 abbrev μ-loop : tie.MeasureT-loop
-μ-loop starts ends labels i j₀ j = ?
+μ-loop starts ends labels i j₀ j = i - j
 
--- src/plan.rt:62:5
 loop-holds : tie.Need-loop-holds Inv-loop μ-loop
-loop-holds c = ?
+unfolding every
+loop-holds c = (omega arith, refl)
 
--- src/plan.rt:63:13
 is-apart-requires : tie.Need-is-apart-requires Inv-loop μ-loop
-is-apart-requires c κs = ?
+is-apart-requires c κs = 
+    let p = c .before .before .before .before .before .pre in
+    record { each-end = p .each-end; each-label = p .each-label; first = p .first; second = omega (arith, p .first) }
 
--- src/plan.rt:64:13
 returns : tie.Need-returns Inv-loop μ-loop
-returns c = ?
+returns c = 
+    let l = c .before .before .before .loop in
+    every-fails _ (l .j) _ (omega arith) (sym (c .before .is-apart .ensures) ∙ not-true (c .before .is-apart .result) (c .if1 .taken))
 
--- src/plan.rt:66:9
 add-j : tie.Need-add-j Inv-loop μ-loop
-add-j c = ?
+add-j c = omega arith
 
--- src/plan.rt:62:5
 loop-less : tie.Need-loop-less Inv-loop μ-loop
-loop-less c = ?
+loop-less c = omega arith
 
--- src/plan.rt:62:5
 loop-again : tie.Need-loop-again Inv-loop μ-loop
-loop-again c = ?
+loop-again c = 
+    let l = c .before .before .before .loop in
+    (omega arith, every-more _ (l .j) (l .inv .1) (sym (c .before .is-apart .ensures) ∙ not-false (c .before .is-apart .result) (c .if1 .left)))
 
--- src/plan.rt:57:1
 returns-2 : tie.Need-returns-2 Inv-loop μ-loop
-returns-2 c = ?
+returns-2 c = 
+    let l = c .before .loop in
+    let e : l .j ≡ c .before .before .before .before .before .args .i = omega arith in
+    sym (rw e at (l .inv .1))
 
 pub is-apart-before-spec : {M : Type 1} → statement M
 is-apart-before-spec =

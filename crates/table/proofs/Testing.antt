@@ -1,0 +1,119 @@
+-- Laws of the test for a plan, as its code goes through it: a label's cases, one earlier row more, one row more.
+use Prim.Native.Nat.{ℕ, zero, suc, _+_, _-_, _≤_, _<_}
+use mathlib.Core.Path.{_≡_, refl, _∙_, sym, ap}
+use mathlib.Core.Bool.{Bool, true, false, not, _&&_, and-true, and-false}
+use mathlib.Core.List.{List}
+use native.Mathlib.Omega.{arith}
+use native.Mathlib.Numerals.{add-one, sub-one}
+use native.Mathlib.Nat.{eq-or-lt-of-le, le-of-suc-le-suc}
+use mathlib.Core.Logic.{⊎-elim}
+use lib.Dec.{leb, eqb}
+use lib.ListN.{length}
+use borrow.Author.Tests.{le-leb, lt-leb, eq-eqb, ne-eqb}
+use Rattle.labels.specs.Labels.{at, _⇒_, every}
+use Rattle.window.specs.declared.Kind.{Kind}
+use Rattle.window.specs.declared.Kind.the-variants.{Round, Run}
+use Rattle.window.specs.Windows.{overlaps}
+use Rattle.table.specs.Tables.{Table, rows, hour, isOpen, isAllowed, isApart, isFit, isEven, isPlan}
+
+-- ---- one label
+
+module _ (hours : List (List ℕ)) (start end : ℕ) where
+  pub open-within : (label : ℕ) → 1 ≤ label → hour hours (label - 1) 0 ≤ start → leb end (hour hours (label - 1) 1) ≡ isOpen Run hours label start end
+  open-within zero h l = absurd (omega arith)
+  open-within (suc r) h l = let m : hour hours r 0 ≤ start = rw sub-one at l in rw (sub-one, le-leb (hour hours r 0) start m) refl
+
+  pub open-outside : (label : ℕ) → 1 ≤ label → start < hour hours (label - 1) 0 → false ≡ isOpen Run hours label start end
+  open-outside zero h l = absurd (omega arith)
+  open-outside (suc r) h l = let m : start < hour hours r 0 = rw sub-one at l in rw (lt-leb (hour hours r 0) start m) refl
+
+module _ (kind : Kind) (hours : List (List ℕ)) (start end mark label : ℕ) where
+  pub allowed-past : 2 < label → false ≡ isAllowed kind hours start end mark label
+  unfolding isAllowed
+  allowed-past h = simp (lt-leb label 2 h)
+
+  pub allowed-heard : label ≤ 2 → (label ≡ 0 → ⊥) → isOpen kind hours label start end ≡ isAllowed kind hours start end mark label
+  unfolding isAllowed
+  allowed-heard h n = rw (le-leb label 2 h, ne-eqb label 0 n) (go (eqb mark 1))
+    where
+      go : (b : Bool) → isOpen kind hours label start end ≡ (b ⇒ true) && isOpen kind hours label start end
+      go true = refl
+      go false = refl
+
+pub allowed-none : (kind : Kind) (hours : List (List ℕ)) (start end mark label : ℕ) → label ≡ 0 → not (eqb mark 1) ≡ isAllowed kind hours start end mark label
+unfolding isAllowed
+allowed-none kind hours start end mark label e = rw e (go kind (eqb mark 1))
+  where
+    go : (kind : Kind) (b : Bool) → not b ≡ (b ⇒ false) && isOpen kind hours 0 start end
+    go Round true = refl
+    go Round false = refl
+    go Run true = refl
+    go Run false = refl
+
+-- ---- a test of every number below n, from 0 on
+
+pub every-more : (p : ℕ → Bool) (i : ℕ) → every i p ≡ true → p i ≡ true → every (i + 1) p ≡ true
+unfolding every
+every-more p i e q = rw (add-one i, q) e
+
+pub every-fails : (p : ℕ → Bool) (i n : ℕ) → i < n → p i ≡ false → false ≡ every n p
+unfolding every
+every-fails p i zero h e = absurd (omega arith)
+every-fails p i (suc n) h e = ⊎-elim
+    (λ q. rw (← q, e) refl)
+    (λ l. rw (← every-fails p i n l e) (sym (and-false (p n))))
+    (eq-or-lt-of-le (le-of-suc-le-suc h))
+
+-- ---- two rows
+
+module _ (starts ends labels : List ℕ) (i j : ℕ) where
+  pub apart-unheard : at labels i ≡ 0 → true ≡ isApart starts ends labels i j
+  unfolding isApart
+  apart-unheard e = rw (eq-eqb (at labels i) 0 e) refl
+
+  pub apart-receivers : (at labels i ≡ 0 → ⊥) → (at labels i ≡ at labels j → ⊥) → true ≡ isApart starts ends labels i j
+  unfolding isApart
+  apart-receivers n m = rw (ne-eqb (at labels i) 0 n, ne-eqb (at labels i) (at labels j) m) refl
+
+  pub apart-windows : (at labels i ≡ 0 → ⊥) → at labels i ≡ at labels j → not (overlaps (at starts i) (at ends i) (at starts j) (at ends j)) ≡ isApart starts ends labels i j
+  unfolding isApart
+  apart-windows n m = rw (ne-eqb (at labels i) 0 n, eq-eqb (at labels i) (at labels j) m) refl
+
+-- ---- all rows
+
+module _ (t : Table) (labels : List ℕ) where
+  abbrev pub allowedAt : ℕ → Bool
+  allowedAt i = isAllowed (t .kind) (t .hours) (at (t .starts) i) (at (t .ends) i) (at (t .marks) i) (at labels i)
+
+  abbrev pub apartBefore : ℕ → Bool
+  apartBefore i = every i (isApart (t .starts) (t .ends) labels i)
+
+  pub not-even-ends : (length (t .ends) ≡ rows t → ⊥) → false ≡ isPlan t labels
+  unfolding isPlan
+  not-even-ends h = simp (ne-eqb (length (t .ends)) (rows t) h)
+
+  pub not-even-marks : length (t .ends) ≡ rows t → (length (t .marks) ≡ rows t → ⊥) → false ≡ isPlan t labels
+  unfolding isPlan
+  not-even-marks e h = simp (eq-eqb (length (t .ends)) (rows t) e, ne-eqb (length (t .marks)) (rows t) h)
+
+  module _ (e : length (t .ends) ≡ rows t) (m : length (t .marks) ≡ rows t) where
+    pub not-even-labels : (length labels ≡ rows t → ⊥) → false ≡ isPlan t labels
+    unfolding isPlan
+    not-even-labels h = simp (eq-eqb (length (t .ends)) (rows t) e, eq-eqb (length (t .marks)) (rows t) m, ne-eqb (length labels) (rows t) h)
+
+    pub even-plan : length labels ≡ rows t → isPlan t labels ≡ every (rows t) (isFit t labels)
+    unfolding isPlan
+    even-plan l = simp (eq-eqb (length (t .ends)) (rows t) e, eq-eqb (length (t .marks)) (rows t) m, eq-eqb (length labels) (rows t) l)
+
+    module _ (l : length labels ≡ rows t) (i : ℕ) (h : i < rows t) where
+      pub not-allowed : (r : Bool) → r ≡ allowedAt i → r ≡ false → false ≡ isPlan t labels
+      unfolding isFit
+      not-allowed r q x = every-fails (isFit t labels) i (rows t) h (rw (← q, x) refl) ∙ sym (even-plan l)
+
+      pub not-apart : (r : Bool) → r ≡ apartBefore i → r ≡ false → false ≡ isPlan t labels
+      unfolding isFit
+      not-apart r q x = every-fails (isFit t labels) i (rows t) h (rw (← q, x) (and-false (allowedAt i))) ∙ sym (even-plan l)
+
+  pub fit-row : (i : ℕ) (r s : Bool) → r ≡ allowedAt i → r ≡ true → s ≡ apartBefore i → s ≡ true → isFit t labels i ≡ true
+  unfolding isFit
+  fit-row i r s q x p y = rw (← q, x, ← p, y) refl
