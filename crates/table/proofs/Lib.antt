@@ -2,3 +2,6 @@
 pub mod Bench
 pub mod Looking
 pub mod Testing
+pub mod Plans
+pub mod Checked
+pub mod Rivals

@@ -1,16 +1,18 @@
 -- The right answer of a planner call, whole: refusal, count, labels and working space, on every input. It speaks of plans, and says nothing of how one is found.
 use Prim.Native.Nat.{ℕ}
+use mathlib.Core.Path.{_≡_}
+use mathlib.Core.Logic.{_↔_}
 use mathlib.Core.Bool.{Bool, true, false, _||_}
 use mathlib.Core.List.{List, _++_}
 use mathlib.Core.Option.{Option, none, some}
 use lib.Dec.{leb, eqb}
 use lib.ListN.{length, drop, replicate}
-use Rattle.labels.specs.Labels.{heard, firstBest}
+use Rattle.labels.specs.Labels.{heard, Best, firstBest}
 use Rattle.table.specs.declared.Refusal.{Refusal}
 use Rattle.table.specs.declared.Refusal.the-variants.{Accepted, Space, NoPlan}
 use Rattle.table.specs.declared.Answer.{Answer}
 use Rattle.table.specs.Refusals.{numberOf, asked, _then_}
-use Rattle.table.specs.Tables.{Table, rows, isPlan}
+use Rattle.table.specs.Tables.{Table, rows, Plan, isPlan}
 use Rattle.table.specs.Checks.{listsRefusal, tableLooked}
 
 -- the working space that the planner needs and clears, in bytes
@@ -65,3 +67,16 @@ pickList false a b = b
 -- What the working space holds after a call with this refusal: an accepted call "clears to zero the first 16,384 bytes"; "Bytes beyond are untouched"; "8 clears the same 16,384 bytes"; otherwise it is untouched.
 unfoldable pub spaceAfter : Refusal → List ℕ → List ℕ
 spaceAfter r space = pickList (eqb (numberOf r) 0 || eqb (numberOf r) 8) (replicate spaceBytes 0 ++ drop spaceBytes space) space
+
+-- ---- demand 3
+
+-- Demand 3 of an answer and labels for a table that passes all checks before 8. "A rival is any list of labels, one per row, that is a plan for the same table, R, marks and receiver hours."
+pub record Demand3 (t : Table) (answer : Answer) (labels : List ℕ) : Type 0 where
+  -- "The planner gives a plan exactly when there is a rival,
+  pub given : (answer .refusal ≡ Accepted) ↔ ((rival : List ℕ) × Plan t rival)
+  -- and refusal 8 exactly when there is none."
+  pub refused : (answer .refusal ≡ NoPlan) ↔ ((rival : List ℕ) → Plan t rival → ⊥)
+  -- "every rival hears at most as many. Every rival that hears as many and differs from the planner's labels comes later in document 01's order."
+  pub best : answer .refusal ≡ Accepted → Best (Plan t) labels
+  -- "the count it reports is the number of its own labels that are 1 or 2"
+  pub count : answer .refusal ≡ Accepted → answer .count ≡ heard labels

@@ -54,6 +54,16 @@ Clash t i j = Overlap (t .kind) (t .ticks) (at (t .starts) i) (at (t .ends) i) (
 abbrev pub Plan : Table → List ℕ → Type 0
 Plan t = Assignment (rows t) (Allowed t) (Clash t)
 
+-- A table that passes its checks: what they leave known.
+pub record Valid (t : Table) : Type 0 where
+  pub few : rows t ≤ 64
+  pub each-end : length (t .ends) ≡ rows t
+  pub each-mark : length (t .marks) ≡ rows t
+  pub ticks-least : 2 ≤ t .ticks
+  pub ticks-most : t .ticks ≤ 43200
+  pub window : (i : ℕ) → i < rows t → Window (t .kind) (t .ticks) (at (t .starts) i) (at (t .ends) i)
+  pub mark : (i : ℕ) → i < rows t → at (t .marks) i ≤ 1
+
 -- ---- the test for a plan, clause for clause
 
 abbrev pub isOpen : Kind → List (List ℕ) → ℕ → ℕ → ℕ → Bool

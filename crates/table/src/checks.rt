@@ -3,7 +3,6 @@ ghost use mathlib.Core.Path.{_≡_};
 ghost use Prim.Native.Nat.{_<_};
 ghost use Rattle.table.specs.Tables.{table};
 ghost use Rattle.table.specs.Checks.{listsRefusal, ticksRefusal, isHours, hoursRefusal, settingRefusal, rowRefusal, rowsLooked, tableLooked};
-
 use crate::Looked;
 use crate::Refusal;
 use window::Kind;

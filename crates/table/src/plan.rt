@@ -1,13 +1,10 @@
 // The test whether labels are a plan of a table: what refusal 9 asks.
 ghost use mathlib.Core.Path.{_≡_};
 ghost use mathlib.Core.Bool.{true};
-ghost use mathlib.Core.List.{List};
 ghost use mathlib.Core.Logic.{_↔_};
-ghost use Prim.Native.Nat.{ℕ, _≤_, _<_};
-ghost use lib.ListN.{length};
+ghost use Prim.Native.Nat.{_≤_};
 ghost use Rattle.labels.specs.Labels.{every};
-ghost use Rattle.table.specs.Tables.{Table, table, Plan, isOpen, isAllowed, isApart, isFit, isPlan, Paired};
-
+ghost use Rattle.table.specs.Tables.{table, Plan, isOpen, isAllowed, isApart, isPlan, Paired, Valid};
 use window::Kind;
 
 // Whether the receiver of a heard row is open for its window.
@@ -26,7 +23,14 @@ fn is_open(kind: Kind, hours: [[u16; 2]; 2], label: u8, start: u16, end: u16) ->
 }
 
 // Whether a row may have the label.
-pub fn is_allowed(kind: Kind, hours: [[u16; 2]; 2], start: u16, end: u16, mark: u8, label: u8) -> bool
+pub fn is_allowed(
+    kind: Kind,
+    hours: [[u16; 2]; 2],
+    start: u16,
+    end: u16,
+    mark: u8,
+    label: u8,
+) -> bool
     ensures { λ r. ⌜ r ≡ isAllowed kind hours start end mark label ⌝ }
 {
     if 2 < label {
@@ -68,7 +72,7 @@ fn is_apart_before(starts: &[u16], ends: &[u16], labels: &[u8], i: usize) -> boo
     true
 }
 
-// Whether the labels are a plan of the table. Of a table that fails a check it is what `isPlan` computes; of one that passes, whether the labels are a plan.
+// Whether the labels are a plan of the table. Of a table that fails a check it is what `isPlan` computes, and says nothing about plans.
 pub fn is_plan(
     kind: Kind,
     ticks: u16,
@@ -78,7 +82,8 @@ pub fn is_plan(
     marks: &[u8],
     labels: &[u8],
 ) -> bool
-    ensures { λ r. ⌜ r ≡ isPlan (table kind ticks hours (now (starts .entry)) (now (ends .entry)) (now (marks .entry))) (now (labels .entry)) ⌝ }
+    ensures computed { λ r. ⌜ r ≡ isPlan (table kind ticks hours (now (starts .entry)) (now (ends .entry)) (now (marks .entry))) (now (labels .entry)) ⌝ }
+    ensures meaning { λ r. ⌜ (Valid (table kind ticks hours (now (starts .entry)) (now (ends .entry)) (now (marks .entry))) → (r ≡ true) ↔ Plan (table kind ticks hours (now (starts .entry)) (now (ends .entry)) (now (marks .entry))) (now (labels .entry))) ⌝ }
 {
     if ends.len() != starts.len() {
         return false;

@@ -49,7 +49,7 @@ add-t22 : tie.Need-add-t22 Inv-loop μ-loop
 add-t22 c = omega arith
 
 returns-3 : tie.Need-returns-3 Inv-loop μ-loop
-returns-3 c = 
+returns-3 c =
     let l = c .before .before .before .before .before .before .before .loop in
     let r = c .before .before .check-row in
     ahead-refused _ _ _ _ _ (l .i) (r .result) (omega arith) (l .inv .3) (r .ensures) (λ e. c .if3 .taken (c .before .number .ensures ∙ e))
@@ -61,7 +61,7 @@ loop-less : tie.Need-loop-less Inv-loop μ-loop
 loop-less c = omega arith
 
 loop-again : tie.Need-loop-again Inv-loop μ-loop
-loop-again c = 
+loop-again c =
     let l = c .before .before .before .before .before .before .before .loop in
     let r = c .before .before .check-row in
     (omega arith, l .inv .1, l .inv .2, ahead-more _ _ _ _ _ (l .i) (omega arith) (l .inv .3) (sym (ap numberOf (r .ensures)) ∙ sym (c .before .number .ensures) ∙ c .if3 .left))

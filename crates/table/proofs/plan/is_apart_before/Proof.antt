@@ -21,12 +21,12 @@ unfolding every
 loop-holds c = (omega arith, refl)
 
 is-apart-requires : tie.Need-is-apart-requires Inv-loop μ-loop
-is-apart-requires c κs = 
+is-apart-requires c κs =
     let p = c .before .before .before .before .before .pre in
     record { each-end = p .each-end; each-label = p .each-label; first = p .first; second = omega (arith, p .first) }
 
 returns : tie.Need-returns Inv-loop μ-loop
-returns c = 
+returns c =
     let l = c .before .before .before .loop in
     every-fails _ (l .j) _ (omega arith) (sym (c .before .is-apart .ensures) ∙ not-true (c .before .is-apart .result) (c .if1 .taken))
 
@@ -37,12 +37,12 @@ loop-less : tie.Need-loop-less Inv-loop μ-loop
 loop-less c = omega arith
 
 loop-again : tie.Need-loop-again Inv-loop μ-loop
-loop-again c = 
+loop-again c =
     let l = c .before .before .before .loop in
     (omega arith, every-more _ (l .j) (l .inv .1) (sym (c .before .is-apart .ensures) ∙ not-false (c .before .is-apart .result) (c .if1 .left)))
 
 returns-2 : tie.Need-returns-2 Inv-loop μ-loop
-returns-2 c = 
+returns-2 c =
     let l = c .before .loop in
     let e : l .j ≡ c .before .before .before .before .before .args .i = omega arith in
     sym (rw e at (l .inv .1))

@@ -40,12 +40,12 @@ index-2-result : tie.Need-index-2-result
 index-2-result c = search needs
 
 returns-2 : tie.Need-returns-2
-returns-2 c = 
+returns-2 c =
     let g = c .before .before .before .before .before .args in
     rw (c .before .before .before .enum-told2 .given .1) (open-within (g .t2) (g .start) (g .end) (g .label) (omega arith) (c .before .if1 .taken))
 
 returns-3 : tie.Need-returns-3
-returns-3 c = 
+returns-3 c =
     let g = c .before .before .before .before .args in
     rw (c .before .before .enum-told2 .given .1) (open-outside (g .t2) (g .start) (g .end) (g .label) (omega arith) (c .if1 .left))
 

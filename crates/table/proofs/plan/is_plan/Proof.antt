@@ -9,11 +9,12 @@ use native.Mathlib.Omega.{arith}
 use mathlib.Core.Bool.{true}
 use mathlib.Core.Path.{_≡_, refl, sym, _∙_}
 use Prim.Native.Nat.{_≤_, _-_}
+use Rattle.table.proofs.Plans.{plan-said}
 use Rattle.table.proofs.plan.is_plan.Statement.{statement}
 use Rattle.table.proofs.plan.is_plan.Tie as tie
 
 abbrev Inv-loop : tie.InvT-loop
-Inv-loop kind ticks hours starts ends marks labels i₀ i = 
+Inv-loop kind ticks hours starts ends marks labels i₀ i =
     (i ≤ length starts)
     × (length ends ≡ length starts)
     × (length marks ≡ length starts)
@@ -24,13 +25,13 @@ abbrev μ-loop : tie.MeasureT-loop
 μ-loop kind ticks hours starts ends marks labels i₀ i = length starts - i
 
 returns : tie.Need-returns Inv-loop μ-loop
-returns c = not-even-ends _ _ (c .if1 .taken)
+returns c = plan-said _ _ _ (not-even-ends _ _ (c .if1 .taken))
 
 returns-2 : tie.Need-returns-2 Inv-loop μ-loop
-returns-2 c = not-even-marks _ _ (c .before .if1 .left) (c .if2 .taken)
+returns-2 c = plan-said _ _ _ (not-even-marks _ _ (c .before .if1 .left) (c .if2 .taken))
 
 returns-3 : tie.Need-returns-3 Inv-loop μ-loop
-returns-3 c = not-even-labels _ _ (c .before .before .if1 .left) (c .before .if2 .left) (c .if3 .taken)
+returns-3 c = plan-said _ _ _ (not-even-labels _ _ (c .before .before .if1 .left) (c .before .if2 .left) (c .if3 .taken))
 
 loop-holds : tie.Need-loop-holds Inv-loop μ-loop
 unfolding every
@@ -58,21 +59,21 @@ is-allowed-requires : tie.Need-is-allowed-requires Inv-loop μ-loop
 is-allowed-requires c κs = search needs
 
 returns-4 : tie.Need-returns-4 Inv-loop μ-loop
-returns-4 c = 
+returns-4 c =
     let l = c .before .before .before .before .before .before .before .loop in
     let r = c .before .is-allowed in
-    not-allowed _ _ (l .inv .1) (l .inv .2) (l .inv .3) (l .i) (omega arith) (r .result) (r .ensures) (not-true (r .result) (c .if4 .taken))
+    plan-said _ _ _ (not-allowed _ _ (l .inv .1) (l .inv .2) (l .inv .3) (l .i) (omega arith) (r .result) (r .ensures) (not-true (r .result) (c .if4 .taken)))
 
 is-apart-before-requires : tie.Need-is-apart-before-requires Inv-loop μ-loop
-is-apart-before-requires c κs = 
+is-apart-before-requires c κs =
     let l = c .before .before .before .before .before .before .before .loop in
     record { each-end = l .inv .1; each-label = l .inv .3; first = omega arith; second = omega arith }
 
 returns-5 : tie.Need-returns-5 Inv-loop μ-loop
-returns-5 c = 
+returns-5 c =
     let l = c .before .before .before .before .before .before .before .before .before .loop in
     let r = c .before .is-apart-before in
-    not-apart _ _ (l .inv .1) (l .inv .2) (l .inv .3) (l .i) (omega arith) (r .result) (r .ensures) (not-true (r .result) (c .if5 .taken))
+    plan-said _ _ _ (not-apart _ _ (l .inv .1) (l .inv .2) (l .inv .3) (l .i) (omega arith) (r .result) (r .ensures) (not-true (r .result) (c .if5 .taken)))
 
 add-i : tie.Need-add-i Inv-loop μ-loop
 add-i c = omega arith
@@ -81,19 +82,23 @@ loop-less : tie.Need-loop-less Inv-loop μ-loop
 loop-less c = omega arith
 
 loop-again : tie.Need-loop-again Inv-loop μ-loop
-loop-again c = 
+loop-again c =
     let l = c .before .before .before .before .before .before .before .before .before .loop in
     let r = c .before .before .before .is-allowed in
-    let s = c .before .is-apart-before in
-    (omega arith, l .inv .1, l .inv .2, l .inv .3,
-    every-more _ (l .i) (l .inv .4)
-    (fit-row _ _ (l .i) (r .result) (s .result) (r .ensures) (not-false (r .result) (c .before .before .if4 .left)) (s .ensures) (not-false (s .result) (c .if5 .left))))
+    let s = c .before .is-apart-before in (
+      omega arith,
+      l .inv .1,
+      l .inv .2,
+      l .inv .3,
+      every-more _ (l .i) (l .inv .4)
+          (fit-row _ _ (l .i) (r .result) (s .result) (r .ensures) (not-false (r .result) (c .before .before .if4 .left)) (s .ensures) (not-false (s .result) (c .if5 .left))),
+    )
 
 returns-6 : tie.Need-returns-6 Inv-loop μ-loop
-returns-6 c = 
+returns-6 c =
     let l = c .before .loop in
     let e : l .i ≡ length (c .before .before .before .before .before .before .before .before .before .args .starts .now) = omega arith in
-    sym (even-plan _ _ (l .inv .1) (l .inv .2) (l .inv .3) ∙ rw e at (l .inv .4))
+    plan-said _ _ _ (sym (even-plan _ _ (l .inv .1) (l .inv .2) (l .inv .3) ∙ rw e at (l .inv .4)))
 
 pub is-plan-spec : {M : Type 1} → statement M
 is-plan-spec =
