@@ -6,7 +6,7 @@ use mathlib.Core.Bool.{Bool, true, false, cond, _&&_}
 use mathlib.Core.List.{List, [], _∷_}
 use mathlib.Core.Option.{Option, none, some}
 use lib.ListN.{length, getD}
-use lib.Dec.{ltb}
+use lib.Dec.{leb, ltb}
 
 -- "A label per row: 0 not heard, 1 or 2 the receiver": the label of row i
 abbrev pub at : List ℕ → ℕ → ℕ

@@ -1,3 +1,4 @@
 -- What the contracts of the crate `line` cite.
 pub mod Line
 pub mod Cells
+pub mod Stage

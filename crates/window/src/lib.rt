@@ -57,10 +57,10 @@ pub fn covers_tick(start: u16, end: u16, tick: u16) -> bool
         }
         return false;
     }
-    if start <= tick {
+    if tick < end {
         return true;
     }
-    tick < end
+    start <= tick
 }
 
 // Whether two windows overlap. Of windows that fail check 6 it is what `overlaps` computes, and says nothing about ticks.

@@ -1,4 +1,5 @@
 -- `window::covers_tick` meets its contract: each way through its code is a way to compute `covers`.
+use mathlib.Core.Bool.{or-true, or-false}
 use borrow.Author.Tests.{lt-ltb, le-ltb, le-leb, lt-leb}
 use Rattle.window.specs.Windows.{covers}
 use Rattle.window.proofs.Meaning.{covers-said}
@@ -15,11 +16,11 @@ returns-2 c = covers-said _ _ _ _ (simp (lt-ltb _ _ (c .before .if1 .taken), lt-
 
 returns-3 : tie.Need-returns-3
 unfolding covers
-returns-3 c = covers-said _ _ _ _ (simp (le-ltb _ _ (c .before .if1 .left), le-leb _ _ (c .if3 .taken)))
+returns-3 c = covers-said _ _ _ _ (simp (le-ltb _ _ (c .before .if1 .left), lt-ltb _ _ (c .if3 .taken), or-true))
 
 returns-4 : tie.Need-returns-4
 unfolding covers
-returns-4 c = covers-said _ _ _ _ (simp (le-ltb _ _ (c .before .if1 .left), lt-leb _ _ (c .if3 .left)))
+returns-4 c = covers-said _ _ _ _ (simp (le-ltb _ _ (c .before .if1 .left), le-ltb _ _ (c .if3 .left), or-false))
 
 pub covers-tick-spec : {M : Type 1} → statement M
 covers-tick-spec = tie.close (tie.spec returns returns-2 returns-3 returns-4)

@@ -1,0 +1,35 @@
+-- `cell_value` by what its parts ensure.
+use Rattle.line.specs.Line.{cell}
+use borrow.Author.Needs.{needs}
+use Rattle.line.proofs.cell_value.Statement.{statement}
+use Rattle.line.proofs.cell_value.Tie as tie
+
+out-value-requires : tie.Need-out-value-requires
+out-value-requires c κs = search needs
+
+heard-value-requires : tie.Need-heard-value-requires
+heard-value-requires c κs = search needs
+
+heard-value-requires-2 : tie.Need-heard-value-requires-2
+heard-value-requires-2 c κs = search needs
+
+larger-requires : tie.Need-larger-requires
+larger-requires c κs = search needs
+
+larger-requires-2 : tie.Need-larger-requires-2
+larger-requires-2 c κs = search needs
+
+returns : tie.Need-returns
+unfolding cell
+returns c = search needs
+
+pub cell-value-spec : {M : Type 1} → statement M
+cell-value-spec =
+    tie.close
+    (tie.spec
+    out-value-requires
+    heard-value-requires
+    heard-value-requires-2
+    larger-requires
+    larger-requires-2
+    returns)
