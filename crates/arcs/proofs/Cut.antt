@@ -9,11 +9,11 @@ use lib.Dec.{leb}
 use borrow.Author.Tests.{le-leb, lt-leb}
 use lib.ListN.{length}
 use Rattle.labels.specs.Labels.{at}
-use Rattle.labels.proofs.Tests.{leb-iff, and-iff, or-iff}
+use Rattle.labels.proofs.Tests.{Test, pass, fail, test, leb-iff, and-iff, or-iff}
 use Rattle.window.specs.Ticks.{distance}
 use Rattle.arcs.specs.Arcs.{Meet, Arcs}
 use Rattle.arcs.specs.Positions.{endOf, crosses, clear, Placed}
-use Rattle.arcs.proofs.Steps.{Test, pass, fail, test, Steps, direct, round, steps}
+use Rattle.arcs.proofs.Steps.{Steps, direct, round, steps}
 use Rattle.arcs.proofs.Meets.{meets-near, meets-iff}
 
 pub position-below : {C cut s : ℕ} → cut < C → s < C → distance C cut s < C

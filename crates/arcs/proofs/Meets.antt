@@ -4,10 +4,10 @@ use mathlib.Core.Path.{_≡_}
 use mathlib.Core.Logic.{_↔_, _⊎_, inl, inr, Iff·trans}
 use mathlib.Core.Bool.{Bool, true}
 use native.Mathlib.Omega.{arith}
-use Rattle.labels.proofs.Tests.{ltb-iff, or-iff}
+use Rattle.labels.proofs.Tests.{Test, pass, fail, test, ltb-iff, or-iff}
 use Rattle.window.specs.Ticks.{distance}
 use Rattle.arcs.specs.Arcs.{Covers, Meet, meets}
-use Rattle.arcs.proofs.Steps.{Test, pass, fail, test, Steps, direct, round, steps, reaches, only-steps}
+use Rattle.arcs.proofs.Steps.{Steps, direct, round, steps, reaches, only-steps}
 
 -- an arc covers the ticks whose distance from its start is below its length
 module _ {C s n t : ℕ} (hs : s < C) (ht : t < C) where

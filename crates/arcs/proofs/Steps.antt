@@ -5,21 +5,9 @@ use mathlib.Core.Bool.{Bool, true, false}
 use native.Mathlib.Omega.{arith}
 use native.Mathlib.Nat.{mod-eq-of-lt}
 use lib.Dec.{leb}
-use borrow.Author.Tests.{leb-true, leb-false}
+use Rattle.labels.proofs.Tests.{Test, pass, fail, test}
 use Rattle.window.specs.Ticks.{Ticks, distance}
 use Rattle.window.proofs.Circle.{wrap, distance-after, distance-before}
-
--- what a test a ≤ b told
-pub data Test (a b : ℕ) : Bool → Type 0 where
-  pass : a ≤ b → Test a b true
-  fail : b < a → Test a b false
-
-pub test : (a b : ℕ) → Test a b (leb a b)
-test a b = go (leb a b) refl
-  where
-    go : (t : Bool) → leb a b ≡ t → Test a b t
-    go true e = pass (leb-true a b e)
-    go false e = fail (leb-false a b e)
 
 -- d steps from s on lead to t, directly or past the end of the circle
 pub data Steps (C s t d : ℕ) : Type 0 where

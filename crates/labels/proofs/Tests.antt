@@ -6,8 +6,20 @@ use mathlib.Core.Bool.{Bool, true, false, not, _&&_, _||_, and-eq-true-iff, fals
 use native.Mathlib.Omega.{arith}
 use native.Mathlib.Nat.{eq-or-lt-of-le, le-of-suc-le-suc}
 use lib.Dec.{leb, ltb, eqb}
-use borrow.Author.Tests.{leb-true, le-leb, ltb-true, lt-ltb, eqb-true, eq-eqb}
+use borrow.Author.Tests.{leb-true, leb-false, le-leb, ltb-true, lt-ltb, eqb-true, eq-eqb}
 use Rattle.labels.specs.Labels.{_⇒_, every}
+
+-- what a test a ≤ b told
+pub data Test (a b : ℕ) : Bool → Type 0 where
+  pass : a ≤ b → Test a b true
+  fail : b < a → Test a b false
+
+pub test : (a b : ℕ) → Test a b (leb a b)
+test a b = go (leb a b) refl
+  where
+    go : (t : Bool) → leb a b ≡ t → Test a b t
+    go true e = pass (leb-true a b e)
+    go false e = fail (leb-false a b e)
 
 pub leb-iff : (a b : ℕ) → (leb a b ≡ true) ↔ (a ≤ b)
 leb-iff a b = (leb-true a b, le-leb a b)

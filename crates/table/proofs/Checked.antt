@@ -1,4 +1,4 @@
--- A call that passes all checks before 8 has a valid table.
+-- A call that passes all checks before 8 has a valid table, and no check before 8 gives 8 or more.
 use Prim.Native.Nat.{ℕ, zero, suc, _+_, _≤_, _<_}
 use mathlib.Core.Path.{_≡_, refl, ap, _∙_, sym}
 use mathlib.Core.Logic.{_⊎_, inl, inr, ⊎-elim}
@@ -11,15 +11,17 @@ use lib.ListN.{length}
 use borrow.Author.Tests.{eqb-true, eqb-false, leb-true}
 use Rattle.labels.specs.Labels.{at}
 use Rattle.labels.proofs.Tests.{leb-iff, eqb-iff, and-iff}
+use Rattle.window.specs.declared.Kind.{Kind}
+use Rattle.window.specs.declared.Kind.the-variants.{Round, Run}
 use Rattle.window.specs.Windows.{isWindow}
 use Rattle.window.proofs.Meaning.{window-iff}
 use Rattle.table.specs.declared.Refusal.{Refusal}
 use Rattle.table.specs.declared.Refusal.the-variants.{Accepted, Lists, Rows, Space, Ticks, Hours, Window, Mark}
 use Rattle.table.specs.declared.Looked.{Looked}
 use Rattle.table.specs.Refusals.{numberOf, pick, asked, _then_}
-use Rattle.table.specs.Tables.{Table, rows, Valid}
-use Rattle.table.specs.Checks.{listsRefusal, ticksRefusal, hoursRefusal, rowRefusal, choose, lookFrom, rowsLooked, settingRefusal, tableLooked}
-use Rattle.table.specs.Planned.{spaceRefusal, checked}
+use Rattle.table.specs.Tables.{Table, rows, isEven, Valid}
+use Rattle.table.specs.Checks.{listsRefusal, ticksRefusal, isHours, hoursRefusal, rowRefusal, choose, lookFrom, rowsLooked, settingRefusal, tableLooked}
+use Rattle.table.specs.Planned.{spaceBytes, spaceRefusal, checked}
 
 -- a check that refuses nothing
 abbrev pub Passed : Refusal → Type 0
@@ -115,3 +117,52 @@ module _ (t : Table) where
       let f = then-passed (listsRefusal (rows t) (length (t .ends)) (length (t .marks)) (length labels)) (spaceRefusal space then tableLooked t .refusal) p in
       let l = lists-passed (rows t) (length (t .ends)) (length (t .marks)) (length labels) (f .0) in
       (table-passed (then-passed (spaceRefusal space) (tableLooked t .refusal) (f .1) .1) (l .1), l .0 .2)
+
+-- ---- no check before 8 gives 8 or more
+
+asked-most : (x : Bool) (r : Refusal) → numberOf (asked x r) ≤ numberOf r
+asked-most true r = omega arith
+asked-most false r = omega arith
+
+then-most : (a b : Refusal) → numberOf a ≤ 7 → numberOf b ≤ 7 → numberOf (a then b) ≤ 7
+then-most a b h k = go (eqb (numberOf a) 0)
+  where
+    go : (x : Bool) → numberOf (pick x b a) ≤ 7
+    go true = k
+    go false = h
+
+choose-most : (x : Bool) (a b : Looked) → numberOf (a .refusal) ≤ 7 → numberOf (b .refusal) ≤ 7 → numberOf (choose x a b .refusal) ≤ 7
+choose-most true a b h k = h
+choose-most false a b h k = k
+
+look-most : (check : ℕ → Refusal) → ((i : ℕ) → numberOf (check i) ≤ 7) → (i n : ℕ) → numberOf (lookFrom check i n .refusal) ≤ 7
+unfolding lookFrom
+look-most check h i zero = omega arith
+look-most check h i (suc n) = choose-most (eqb (numberOf (check i)) 0) _ _ (look-most check h (i + 1) n) (h i)
+
+hours-most : (kind : Kind) (R : ℕ) (hours : List (List ℕ)) → numberOf (hoursRefusal kind R hours) ≤ 7
+unfolding hoursRefusal
+hours-most Round R hours = omega arith
+hours-most Run R hours = omega (arith, asked-most (isHours hours R 0 && isHours hours R 1) Hours)
+
+module _ (t : Table) where
+  table-most : numberOf (tableLooked t .refusal) ≤ 7
+  unfolding tableLooked settingRefusal ticksRefusal rowsLooked rowRefusal
+  table-most =
+      let ticks = asked (leb 2 (t .ticks) && leb (t .ticks) 43200) Ticks in
+      let hours = hoursRefusal (t .kind) (t .ticks) (t .hours) in
+      choose-most (eqb (numberOf (ticks then hours)) 0) _ _
+      (choose-most (isEven (t .starts) (t .ends) (t .marks)) _ _
+      (look-most _ (λ i. then-most (asked (isWindow (t .kind) (t .ticks) (at (t .starts) i) (at (t .ends) i)) Window) (asked (leb (at (t .marks) i) 1) Mark)
+      (omega (arith, asked-most (isWindow (t .kind) (t .ticks) (at (t .starts) i) (at (t .ends) i)) Window))
+      (omega (arith, asked-most (leb (at (t .marks) i) 1) Mark))) 0 (rows t))
+      (omega arith))
+      (then-most ticks hours (omega (arith, asked-most (leb 2 (t .ticks) && leb (t .ticks) 43200) Ticks)) (hours-most (t .kind) (t .ticks) (t .hours)))
+
+  pub checked-most : (labels : List ℕ) (space : ℕ) → numberOf (checked t labels space) ≤ 7
+  unfolding checked listsRefusal spaceRefusal
+  checked-most labels space =
+      let same = eqb (length (t .ends)) (rows t) && eqb (length (t .marks)) (rows t) && eqb (length labels) (rows t) in
+      then-most (asked same Lists then asked (leb (rows t) 64) Rows) (spaceRefusal space then tableLooked t .refusal)
+      (then-most (asked same Lists) (asked (leb (rows t) 64) Rows) (omega (arith, asked-most same Lists)) (omega (arith, asked-most (leb (rows t) 64) Rows)))
+      (then-most (spaceRefusal space) (tableLooked t .refusal) (omega (arith, asked-most (leb spaceBytes space) Space)) table-most)

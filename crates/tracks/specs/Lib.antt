@@ -1,2 +1,3 @@
 -- What the contracts of the crate `tracks` cite.
 pub mod Tracks
+pub mod Narrowing

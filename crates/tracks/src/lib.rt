@@ -1,1 +1,263 @@
 // The best two-track assignment of arcs under permissions.
+ghost use mathlib.Core.Path.{_≡_};
+ghost use mathlib.Core.Logic.{_≢_};
+ghost use mathlib.Core.Bool.{Bool, true, false};
+ghost use Prim.Native.Nat.{ℕ, _≤_, _<_};
+ghost use lib.ListN.{length, drop, set};
+ghost use Rattle.labels.specs.Labels.{at, place};
+ghost use Rattle.labels.specs.Permission.{permits, only};
+ghost use Rattle.arcs.specs.Arcs.{Arcs, Assigned};
+ghost use Rattle.arcs.specs.Order.{Arranged};
+ghost use Rattle.line.specs.Cells.{Lows};
+ghost use Rattle.pairs.specs.Capped.{Ready};
+ghost use Rattle.tracks.specs.Tracks.{Lent, Most, Answered, Solved, Prepared};
+ghost use Rattle.tracks.specs.Narrowing.{Ordered, Chosen, Narrowed, Tried, Row};
+
+// Whether a permission permits a label.
+fn may_have(perm: u8, label: u8) -> bool
+    ensures { λ r. ⌜ r ≡ permits perm label ⌝ }
+{
+    match label {
+        0 => perm % 2 == 1,
+        1 => perm / 2 % 2 == 1,
+        2 => perm / 4 % 2 == 1,
+        _ => false,
+    }
+}
+
+// The permission of a label alone.
+fn only_label(label: u8) -> u8
+    ensures { λ r. ⌜ r ≡ only label ⌝ }
+{
+    match label {
+        0 => 1,
+        1 => 2,
+        2 => 4,
+        _ => 0,
+    }
+}
+
+// Whether a permission permits a label that comes after this one, in the order 1, 2, 0.
+fn may_have_later(perm: u8, label: u8) -> bool
+    requires { ⌜ label ≤ 2 ⌝ }
+    ensures { λ r. ⌜ (r ≡ false → (y : ℕ) → place label < place y → permits perm y ≡ false) ⌝ }
+{
+    if label == 0 {
+        return false;
+    }
+    if may_have(perm, 0) {
+        return true;
+    }
+    if label == 2 {
+        return false;
+    }
+    may_have(perm, 2)
+}
+
+// Tries the label for row i, whose permission was perm: it is taken if the best with it alone still reaches the cap. The last label that is permitted needs no try.
+fn take_label(
+    positions: &[u16],
+    ends: &[u16],
+    order: &[u8],
+    perms: &mut [u8],
+    m: usize,
+    cap: u8,
+    left: &mut [u8],
+    space: &mut [u8],
+    i: usize,
+    perm: u8,
+    label: u8,
+) -> bool
+    requires { ⌜ Row (now positions) (now ends) (now order) (now perms) m cap (now left) (now space) i ⌝ }
+    requires { ⌜ label ≤ 2 ⌝ }
+    ensures { λ r. ⌜ Tried (Ordered (now (positions .entry)) (now (ends .entry)) (now (order .entry))) cap (now (perms .entry)) i perm label (now (perms .exit)) r ⌝ }
+    ensures { λ r. ⌜ drop 4225 (now (space .exit)) ≡ drop 4225 (now (space .entry)) ⌝ }
+{
+    if !may_have(perm, label) {
+        return false;
+    }
+    perms[i] = only_label(label);
+    if !may_have_later(perm, label) {
+        return true;
+    }
+    let best = pairs::capped_best(positions, ends, order, perms, m, cap, left, space);
+    best == cap
+}
+
+// Leaves row i the first of the labels 1, 2, 0 with which the cap is still reached, and returns the label.
+fn narrow_row(
+    positions: &[u16],
+    ends: &[u16],
+    order: &[u8],
+    perms: &mut [u8],
+    m: usize,
+    cap: u8,
+    left: &mut [u8],
+    space: &mut [u8],
+    i: usize,
+) -> u8
+    requires { ⌜ Row (now positions) (now ends) (now order) (now perms) m cap (now left) (now space) i ⌝ }
+    ensures { λ r. ⌜ Chosen (Ordered (now (positions .entry)) (now (ends .entry)) (now (order .entry))) cap (now (perms .entry)) i (at (now (perms .entry)) i) r ⌝ }
+    ensures { λ r. ⌜ now (perms .exit) ≡ set (now (perms .entry)) i (only r) ⌝ }
+    ensures { λ r. ⌜ drop 4225 (now (space .exit)) ≡ drop 4225 (now (space .entry)) ⌝ }
+{
+    let perm = perms[i];
+    if take_label(
+        positions,
+        ends,
+        order,
+        perms,
+        m,
+        cap,
+        left,
+        space,
+        i,
+        perm,
+        1,
+    ) {
+        return 1;
+    }
+    if take_label(
+        positions,
+        ends,
+        order,
+        perms,
+        m,
+        cap,
+        left,
+        space,
+        i,
+        perm,
+        2,
+    ) {
+        return 2;
+    }
+    perms[i] = only_label(0);
+    0
+}
+
+// Leaves each row one label.
+fn narrow(
+    positions: &[u16],
+    ends: &[u16],
+    order: &[u8],
+    perms: &mut [u8],
+    m: usize,
+    cap: u8,
+    left: &mut [u8],
+    space: &mut [u8],
+)
+    requires { ⌜ Ready (now positions) (now ends) (now order) (now perms) m cap (now left) (now space) ⌝ }
+    ensures { λ r. ⌜ Narrowed (Ordered (now (positions .entry)) (now (ends .entry)) (now (order .entry))) cap (now (perms .entry)) (length (now (perms .entry))) (now (perms .exit)) ⌝ }
+    ensures { λ r. ⌜ drop 4225 (now (space .exit)) ≡ drop 4225 (now (space .entry)) ⌝ }
+{
+    let mut i: usize = 0;
+    while i < perms.len() {
+        narrow_row(positions, ends, order, perms, m, cap, left, space, i);
+        i += 1;
+    }
+}
+
+// Turns the arcs into rows in order, `starts` into positions and `lengths` into ends, and sets the low rows of those that do not cross the cut; returns how many cross.
+fn prepare(
+    circle: u16,
+    starts: &mut [u16],
+    lengths: &mut [u16],
+    order: &mut [u8],
+    space: &mut [u8],
+) -> usize
+    requires { ⌜ Arcs circle (now starts) (now lengths) ⌝ }
+    requires { ⌜ length (now order) ≡ length (now starts) ⌝ }
+    requires { ⌜ 4608 ≤ length (now space) ⌝ }
+    ensures { λ m. ⌜ Prepared circle (now (starts .entry)) (now (lengths .entry)) (now (starts .exit)) (now (lengths .exit)) (now (order .exit)) m (now (space .entry)) (now (space .exit)) ⌝ }
+{
+    let m = arcs::arrange(circle, starts, lengths, order);
+    line::set_lows(&starts[m..], &lengths[m..], space);
+    m
+}
+
+// The most that can be heard and one more, 0 without an assignment; where narrowing is asked, the permissions are narrowed to the best assignment.
+fn solve_lent(
+    circle: u16,
+    starts: &mut [u16],
+    lengths: &mut [u16],
+    perms: &mut [u8],
+    narrowing: bool,
+    order: &mut [u8],
+    left: &mut [u8],
+    space: &mut [u8],
+) -> u8
+    requires { ⌜ Lent circle (now starts) (now lengths) (now perms) (now space) ⌝ }
+    requires { ⌜ (length (now order) ≡ length (now starts)) × (length (now left) ≡ length (now starts)) ⌝ }
+    ensures { λ r. ⌜ Solved (Assigned circle (now (starts .entry)) (now (lengths .entry)) (now (perms .entry))) narrowing r (now (perms .entry)) (now (perms .exit)) ⌝ }
+    ensures { λ r. ⌜ drop 4608 (now (space .exit)) ≡ drop 4608 (now (space .entry)) ⌝ }
+{
+    let m = prepare(circle, starts, lengths, order, space);
+    // no 64 rows reach the cap 66
+    let best = pairs::capped_best(starts, lengths, order, perms, m, 66, left, space);
+    if narrowing {
+        if 0 < best {
+            narrow(starts, lengths, order, perms, m, best, left, space);
+        }
+    }
+    best
+}
+
+// The same, with the arrays that it needs. These are all the arrays that functions of this crate hold: 128 bytes in sum.
+fn solve(
+    circle: u16,
+    starts: &mut [u16],
+    lengths: &mut [u16],
+    perms: &mut [u8],
+    narrowing: bool,
+    space: &mut [u8],
+) -> u8
+    requires { ⌜ Lent circle (now starts) (now lengths) (now perms) (now space) ⌝ }
+    ensures { λ r. ⌜ Solved (Assigned circle (now (starts .entry)) (now (lengths .entry)) (now (perms .entry))) narrowing r (now (perms .entry)) (now (perms .exit)) ⌝ }
+    ensures { λ r. ⌜ drop 4608 (now (space .exit)) ≡ drop 4608 (now (space .entry)) ⌝ }
+{
+    let mut order = [0u8; 64];
+    let mut left = [0u8; 64];
+    let n = starts.len();
+    solve_lent(
+        circle,
+        starts,
+        lengths,
+        perms,
+        narrowing,
+        &mut order[..n],
+        &mut left[..n],
+        space,
+    )
+}
+
+// The best assignment: 0 where there is none, else its count and one more, and each row's permission is left with its label alone.
+// What is left of starts and lengths and of the first 4,608 bytes of the space is open, and without an assignment of the permissions too.
+pub fn best_assignment(
+    circle: u16,
+    starts: &mut [u16],
+    lengths: &mut [u16],
+    perms: &mut [u8],
+    space: &mut [u8],
+) -> u8
+    requires { ⌜ Lent circle (now starts) (now lengths) (now perms) (now space) ⌝ }
+    ensures { λ r. ⌜ Answered (Assigned circle (now (starts .entry)) (now (lengths .entry)) (now (perms .entry))) r (now (perms .exit)) × (drop 4608 (now (space .exit)) ≡ drop 4608 (now (space .entry))) ⌝ }
+{
+    solve(circle, starts, lengths, perms, true, space)
+}
+
+// The count of the best assignment and one more, 0 where there is none. The permissions stay as they are; what is left of starts and lengths and of the first
+// 4,608 bytes of the space is open. It borrows the permissions as `best_assignment` does, so that one function holds the arrays for both.
+pub fn best_count(
+    circle: u16,
+    starts: &mut [u16],
+    lengths: &mut [u16],
+    perms: &mut [u8],
+    space: &mut [u8],
+) -> u8
+    requires { ⌜ Lent circle (now starts) (now lengths) (now perms) (now space) ⌝ }
+    ensures { λ r. ⌜ Most (Assigned circle (now (starts .entry)) (now (lengths .entry)) (now (perms .entry))) r × (drop 4608 (now (space .exit)) ≡ drop 4608 (now (space .entry))) ⌝ }
+    ensures { λ r. ⌜ now (perms .exit) ≡ now (perms .entry) ⌝ }
+{
+    solve(circle, starts, lengths, perms, false, space)
+}

@@ -6,23 +6,13 @@ use mathlib.Core.Bool.{Bool, true, false, cond, _&&_, _||_, false≢true, or-tru
 use native.Mathlib.Omega.{arith}
 use native.Mathlib.Nat.{le-of-lt}
 use lib.Dec.{leb, ltb, eqb}
-use borrow.Author.Tests.{leb-true, leb-false, lt-ltb, le-ltb, le-leb, eq-eqb, ne-eqb}
-use Rattle.labels.proofs.Tests.{leb-iff, ltb-iff, eqb-iff, and-iff, not-iff}
+use borrow.Author.Tests.{ltb-true, lt-ltb, le-ltb, le-leb, eq-eqb, ne-eqb}
+use Rattle.labels.proofs.Tests.{Test, pass, fail, test, bool-ext, leb-iff, ltb-iff, eqb-iff, and-iff, not-iff}
 use Rattle.window.specs.declared.Kind.{Kind}
 use Rattle.window.specs.declared.Kind.the-variants.{Round, Run}
-use Rattle.window.specs.Windows.{next, walk, Covers, Overlap, Window, isWindow, covers, overlaps}
-
--- what a test a ≤ b told
-pub data Test (a b : ℕ) : Bool → Type 0 where
-  pass : a ≤ b → Test a b true
-  fail : b < a → Test a b false
-
-pub test : (a b : ℕ) → Test a b (leb a b)
-test a b = go (leb a b) refl
-  where
-    go : (t : Bool) → leb a b ≡ t → Test a b t
-    go true e = pass (leb-true a b e)
-    go false e = fail (leb-false a b e)
+use Rattle.window.specs.Ticks.{Ticks, distance}
+use Rattle.window.specs.Windows.{next, walk, Covers, Overlap, Window, isWindow, covers, ticksIn, overlaps}
+use Rattle.window.proofs.Circle.{distance-after, distance-before}
 
 -- ---- check 6
 
@@ -35,6 +25,10 @@ window-iff Round R s e = (
     both : (isWindow Round R s e ≡ true) ↔ (((s < R) × (e < R)) × (s ≢ e))
     both = and-iff (and-iff (ltb-iff s R) (ltb-iff e R)) (not-iff (eqb-iff s e))
 window-iff Run R s e = and-iff (ltb-iff s e) (leb-iff e R)
+
+pub window-end : (kind : Kind) (R s e : ℕ) → Window kind R s e → e ≤ R
+window-end Round R s e w = le-of-lt (w .1)
+window-end Run R s e w = w .1
 
 pub window-start : (kind : Kind) (R s e : ℕ) → Window kind R s e → s < R
 window-start Round R s e w = w .0
@@ -234,3 +228,60 @@ covers-said r s e t q = (q, λ kind R w h. rw q (covers-iff kind R s e w t h))
 pub overlaps-said : (r : Bool) (s e s′ e′ : ℕ) → r ≡ overlaps s e s′ e′
     → (r ≡ overlaps s e s′ e′) × ((kind : Kind) (R : ℕ) → Window kind R s e → Window kind R s′ e′ → (r ≡ true) ↔ Overlap kind R s e s′ e′)
 overlaps-said r s e s′ e′ q = (q, λ kind R v w. rw q (overlaps-iff kind R s e s′ e′ v w))
+
+-- ---- a window as an arc: the ticks whose distance from the start is below the window's length
+
+module _ (R s e t : ℕ) (h : Ticks R s t) where
+  in-near : e ≤ R → (n : ℕ) → (s < e → n ≡ e - s) → (e ≤ s → n + s ≡ e + R) → In s e t ↔ (distance R s t < n)
+  in-near r n f g = (there, go (test s t) (test (suc s) e))
+    where
+      there : In s e t → distance R s t < n
+      there (plain a b c) = omega (arith, distance-after R s t h b, f a)
+      there (late a b) = omega (arith, distance-after R s t h b, g a, h .tick-below)
+      there (early a b) = omega (arith, distance-before R s t h (omega arith), g a)
+
+      go : {p q : Bool} → Test s t p → Test (suc s) e q → distance R s t < n → In s e t
+      go (pass a) (pass b) l = plain b a (omega (arith, distance-after R s t h a, f b))
+      go (pass a) (fail b) l = late (omega arith) a
+      go (fail a) (pass b) l = absurd (omega (arith, distance-before R s t h a, f b, h .start-below))
+      go (fail a) (fail b) l = early (omega arith) (omega (arith, distance-before R s t h a, g (omega arith)))
+
+-- the length of a window, by which of its ends comes first
+module _ (kind : Kind) (R s e : ℕ) (w : Window kind R s e) where
+  ticks-straight : s < e → ticksIn kind R s e ≡ e - s
+  unfolding ticksIn
+  ticks-straight = go kind w
+    where
+      go : (kind : Kind) → Window kind R s e → s < e → ticksIn kind R s e ≡ e - s
+      go Round w h = sym (distance-after R s e (record { start-below = w .0; tick-below = w .1 }) (le-of-lt h))
+      go Run w h = refl
+
+  ticks-wrapped : e ≤ s → ticksIn kind R s e + s ≡ e + R
+  unfolding ticksIn
+  ticks-wrapped = go kind w
+    where
+      go : (kind : Kind) → Window kind R s e → e ≤ s → ticksIn kind R s e + s ≡ e + R
+      go Round w h = omega (arith, distance-before R s e (record { start-below = w .0; tick-below = w .1 }) (omega (arith, w .2)))
+      go Run w h = absurd (omega arith)
+
+  pub ticks-some : 1 ≤ ticksIn kind R s e
+  ticks-some = go (test (suc s) e)
+    where
+      go : {b : Bool} → Test (suc s) e b → 1 ≤ ticksIn kind R s e
+      go (pass h) = omega (arith, ticks-straight h)
+      go (fail h) = omega (arith, ticks-wrapped (omega arith), window-start kind R s e w)
+
+  pub ticks-most : ticksIn kind R s e ≤ R
+  ticks-most = go (test (suc s) e)
+    where
+      go : {b : Bool} → Test (suc s) e b → ticksIn kind R s e ≤ R
+      go (pass h) = omega (arith, ticks-straight h, window-end kind R s e w)
+      go (fail h) = omega (arith, ticks-wrapped (omega arith))
+
+  pub covers-near : (t : ℕ) → t < R → covers s e t ≡ ltb (distance R s t) (ticksIn kind R s e)
+  covers-near t h =
+      let ticks : Ticks R s t = record { start-below = window-start kind R s e w; tick-below = h } in
+      let near = in-near R s e t ticks (window-end kind R s e w) (ticksIn kind R s e) ticks-straight ticks-wrapped in
+      bool-ext (covers s e t) (ltb (distance R s t) (ticksIn kind R s e))
+      (λ x. lt-ltb (distance R s t) (ticksIn kind R s e) (near .0 (covers-in s e t x)))
+      (λ x. in-covers s e t (near .1 (ltb-true (distance R s t) (ticksIn kind R s e) x)))

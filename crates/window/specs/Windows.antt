@@ -1,9 +1,10 @@
 -- Windows of a round or a run of R ticks: which ticks a window covers, and when two windows overlap (paper 01, "Ticks and windows"), for both kinds together.
-use Prim.Native.Nat.{ℕ, zero, suc, _≤_, _<_}
+use Prim.Native.Nat.{ℕ, zero, suc, _-_, _≤_, _<_}
 use mathlib.Core.Path.{_≡_}
 use mathlib.Core.Logic.{_≢_}
 use mathlib.Core.Bool.{Bool, cond, not, _&&_, _||_}
 use lib.Dec.{leb, ltb, eqb}
+use Rattle.window.specs.Ticks.{distance}
 use Rattle.window.specs.declared.Kind.{Kind}
 use Rattle.window.specs.declared.Kind.the-variants.{Round, Run}
 
@@ -46,6 +47,11 @@ isWindow Run R s e = ltb s e && leb e R
 -- at or after start and before end; where the end comes first, as only in a round, one of the two is enough
 unfoldable pub covers : ℕ → ℕ → ℕ → Bool
 covers s e t = cond (ltb s e) (leb s t && ltb t e) (leb s t || ltb t e)
+
+-- how many ticks a window covers
+unfoldable pub ticksIn : Kind → ℕ → ℕ → ℕ → ℕ
+ticksIn Round R s e = distance R s e
+ticksIn Run R s e = e - s
 
 -- one of the two windows covers the other's start
 unfoldable pub overlaps : ℕ → ℕ → ℕ → ℕ → Bool

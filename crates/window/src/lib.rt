@@ -4,7 +4,7 @@ ghost use mathlib.Core.Logic.{_↔_};
 ghost use mathlib.Core.Bool.{true};
 ghost use Prim.Native.Nat.{ℕ, _<_};
 ghost use Rattle.window.specs.Ticks.{Ticks, distance};
-ghost use Rattle.window.specs.Windows.{Covers, Overlap, Window, isWindow, covers, overlaps};
+ghost use Rattle.window.specs.Windows.{Covers, Overlap, Window, isWindow, covers, ticksIn, overlaps};
 
 // A round is a day that repeats; a run is one stretch of time.
 pub enum Kind {
@@ -43,6 +43,17 @@ pub fn is_window(kind: Kind, ticks: u16, start: u16, end: u16) -> bool
             }
             false
         }
+    }
+}
+
+// How many ticks a window covers.
+pub fn ticks_in(kind: Kind, ticks: u16, start: u16, end: u16) -> u16
+    requires { ⌜ Window kind ticks start end ⌝ }
+    ensures { λ r. ⌜ r ≡ ticksIn kind ticks start end ⌝ }
+{
+    match kind {
+        Kind::Round => distance(ticks, start, end),
+        Kind::Run => end - start,
     }
 }
 

@@ -1,0 +1,124 @@
+-- What the planner's parts report is what `planned` yields: the core's answer is the best plan or none, a refusal changes nothing, and the working space is cleared where paper 01 says so.
+use Prim.Native.Nat.{ℕ, zero, suc, _+_, _-_, _≤_, _<_}
+use mathlib.Core.Path.{_≡_, refl, sym, ap, _∙_}
+use mathlib.Core.Bool.{Bool, true, false, _||_}
+use mathlib.Core.List.{List, map, _++_}
+use mathlib.Core.Option.{Option, none, some}
+use native.Mathlib.Omega.{arith}
+use lib.Dec.{eqb, leb}
+use lib.ListN.{length, drop, replicate}
+use lib.Seq.{drop-drop}
+use borrow.Author.Tests.{eq-eqb, ne-eqb, le-leb, lt-leb}
+use Rattle.labels.specs.Labels.{heard, Best}
+use Rattle.labels.specs.Permission.{labelOf}
+use Rattle.labels.proofs.Best.{best-iff}
+use Rattle.arcs.specs.Arcs.{Assigned}
+use Rattle.table.specs.declared.Refusal.{Refusal}
+use Rattle.table.specs.declared.Refusal.the-variants.{Accepted, Space, NoPlan}
+use Rattle.table.specs.declared.Answer.{Answer}
+use Rattle.table.specs.Refusals.{numberOf, asked, _then_}
+use Rattle.table.specs.Tables.{Table, rows, Plan, Valid}
+use Rattle.table.specs.Checks.{listsRefusal, tableLooked}
+use Rattle.table.specs.Planned.{spaceBytes, spaceRefusal, checked, bestPlan, Planned, given, planned, spaceAfter}
+use Rattle.table.proofs.Checked.{Passed, checked-most, checked-valid}
+use Rattle.table.proofs.Rivals.{best-plan, no-plan, planned-passed}
+use Rattle.tracks.specs.Tracks.{Answered}
+use Rattle.planner.specs.Turned.{Turned, Checked}
+use Rattle.planner.proofs.Turning.{plan-assigned}
+
+abbrev pub answered : Refusal → ℕ → Answer
+answered r n = record { refusal = r; count = n }
+
+-- ---- a checked table
+
+module _ (t : Table) (valid : Valid t) (before : List ℕ) {starts lengths perms : List ℕ} (turned : Turned t (rows t) starts lengths perms)
+    {r : ℕ} {left : List ℕ} (a : Answered (Assigned (t .ticks) starts lengths perms) r left) where
+  none-left : r ≡ 0 → bestPlan t ≡ none
+  none-left e = no-plan t valid .1 (λ l P. a .none e l (plan-assigned t valid turned l .0 P))
+
+  one-left : 0 < r → bestPlan t ≡ some (map labelOf left)
+  one-left h = best-plan t valid (map labelOf left) .1 (best-iff (λ l. (plan-assigned t valid turned l .1, plan-assigned t valid turned l .0)) (a .found h))
+
+  pub none-given : r ≡ 0 → (answered NoPlan 0 ≡ given (bestPlan t) before .answer) × (before ≡ given (bestPlan t) before .labels)
+  unfolding given
+  none-given e = rw (none-left e) (refl, refl)
+
+  pub one-given : (r ≡ 0 → ⊥) → (after : List ℕ) → after ≡ map labelOf left
+      → (answered Accepted (r - 1) ≡ given (bestPlan t) before .answer) × (after ≡ given (bestPlan t) before .labels)
+  unfolding given
+  one-given n after e =
+      let h : 0 < r = omega (arith, n) in
+      let k : r - 1 ≡ heard (map labelOf left) = omega (arith, a .count h) in
+      rw (one-left h) (ap (answered Accepted) k, e)
+
+-- ---- a refusal
+
+then-first : (a b : Refusal) → (numberOf a ≡ 0 → ⊥) → (a then b) ≡ a
+then-first a b n = rw (ne-eqb (numberOf a) 0 n) refl
+
+then-next : (a b : Refusal) → Passed a → (a then b) ≡ b
+then-next a b p = rw (eq-eqb (numberOf a) 0 p) refl
+
+module _ (t : Table) (before space : List ℕ) where
+  abbrev lists : Refusal
+  lists = listsRefusal (rows t) (length (t .ends)) (length (t .marks)) (length before)
+
+  pub lists-refuses : (numberOf lists ≡ 0 → ⊥) → lists ≡ checked t before (length space)
+  unfolding checked
+  lists-refuses n = sym (then-first lists _ n)
+
+  pub space-refuses : Passed lists → length space < spaceBytes → Space ≡ checked t before (length space)
+  unfolding checked spaceRefusal
+  space-refuses p h = sym (then-next lists _ p ∙ rw (lt-leb spaceBytes (length space) h) refl)
+
+  pub table-checked : Passed lists → spaceBytes ≤ length space → tableLooked t .refusal ≡ checked t before (length space)
+  unfolding checked spaceRefusal
+  table-checked p h = sym (then-next lists _ p ∙ rw (le-leb spaceBytes (length space) h) refl)
+
+  space-kept : (r : Refusal) → (numberOf r ≡ 0 → ⊥) → numberOf r ≤ 7 → space ≡ spaceAfter r space
+  unfolding spaceAfter
+  space-kept r n h = rw (ne-eqb (numberOf r) 0 n, ne-eqb (numberOf r) 8 (λ e. omega arith)) refl
+
+  planned-refused : (numberOf (checked t before (length space)) ≡ 0 → ⊥)
+      → planned t before (length space) ≡ record { answer = answered (checked t before (length space)) 0; labels = before }
+  unfolding planned
+  planned-refused n = rw (ne-eqb (numberOf (checked t before (length space))) 0 n) refl
+
+  -- what a refused call promises
+  pub refused-said : (r : Refusal) (a : Answer) → a ≡ answered r 0 → r ≡ checked t before (length space) → (numberOf r ≡ 0 → ⊥)
+      → (a ≡ planned t before (length space) .answer) × ((before ≡ planned t before (length space) .labels) × (space ≡ spaceAfter (a .refusal) space))
+  refused-said r a e q n =
+      let m : numberOf (checked t before (length space)) ≡ 0 → ⊥ = λ z. n (ap numberOf q ∙ z) in
+      let p = planned-refused m in (
+        e ∙ ap (λ x. answered x 0) q ∙ sym (ap (λ x. x .answer) p),
+        (sym (ap (λ x. x .labels) p), rw e (space-kept r n (rw q (checked-most t before (length space))))),
+      )
+
+  -- ---- an answer
+
+  -- what planning a checked table is lent
+  pub ready : Passed (checked t before (length space)) → spaceBytes ≤ length space → Checked t before space
+  unfolding spaceBytes
+  ready p h =
+      let v = checked-valid t before (length space) p in
+      record { valid = v .0; each-label = v .1; room = omega arith }
+
+  cleared : (o : Option (List ℕ)) → replicate spaceBytes 0 ++ drop spaceBytes space ≡ spaceAfter (given o before .answer .refusal) space
+  unfolding spaceAfter given
+  cleared none = refl
+  cleared (some l) = refl
+
+  rest-kept : (used : List ℕ) → drop 4608 used ≡ drop 4608 space → drop spaceBytes used ≡ drop spaceBytes space
+  unfolding spaceBytes
+  rest-kept used e = sym (drop-drop 11776 4608 used) ∙ ap (drop 11776) e ∙ drop-drop 11776 4608 space
+
+  -- what a call that passes the checks promises
+  pub answer-said : Passed (checked t before (length space)) → (a : Answer) (after used space′ : List ℕ)
+      → a ≡ given (bestPlan t) before .answer → after ≡ given (bestPlan t) before .labels → drop 4608 used ≡ drop 4608 space
+      → space′ ≡ replicate spaceBytes 0 ++ drop spaceBytes used
+      → (a ≡ planned t before (length space) .answer) × ((after ≡ planned t before (length space) .labels) × (space′ ≡ spaceAfter (a .refusal) space))
+  answer-said p a after used space′ e l d s =
+      let q = planned-passed t before (length space) p in (
+        e ∙ sym (ap (λ x. x .answer) q),
+        (l ∙ sym (ap (λ x. x .labels) q), s ∙ ap (λ x. replicate spaceBytes 0 ++ x) (rest-kept used d) ∙ rw e (cleared (bestPlan t))),
+      )
