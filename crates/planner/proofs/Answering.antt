@@ -19,9 +19,9 @@ use Rattle.table.specs.declared.Answer.{Answer}
 use Rattle.table.specs.Refusals.{numberOf, asked, _then_}
 use Rattle.table.specs.Tables.{Table, rows, Plan, Valid}
 use Rattle.table.specs.Checks.{listsRefusal, tableLooked}
-use Rattle.table.specs.Planned.{spaceBytes, spaceRefusal, checked, bestPlan, Planned, given, planned, spaceAfter}
+use Rattle.table.specs.Planned.{spaceBytes, spaceRefusal, checked, bestPlan, Planned, given, planned, spaceAfter, Demand3}
 use Rattle.table.proofs.Checked.{Passed, checked-most, checked-valid}
-use Rattle.table.proofs.Rivals.{best-plan, no-plan, planned-passed}
+use Rattle.table.proofs.Rivals.{best-plan, no-plan, planned-passed, demand-3}
 use Rattle.tracks.specs.Tracks.{Answered}
 use Rattle.planner.specs.Turned.{Turned, Checked}
 use Rattle.planner.proofs.Turning.{plan-assigned}
@@ -84,15 +84,28 @@ module _ (t : Table) (before space : List ℕ) where
   unfolding planned
   planned-refused n = rw (ne-eqb (numberOf (checked t before (length space))) 0 n) refl
 
+  -- what a call promises of its answer, its labels and its working space
+  abbrev pub Promised : Answer → List ℕ → List ℕ → Type 0
+  Promised a after space′ =
+      (a ≡ planned t before (length space) .answer)
+      × ((after ≡ planned t before (length space) .labels)
+      × ((space′ ≡ spaceAfter (a .refusal) space)
+      × (Passed (checked t before (length space)) → Demand3 t a after)))
+
+  promised : (a : Answer) (after space′ : List ℕ) → a ≡ planned t before (length space) .answer → after ≡ planned t before (length space) .labels
+      → space′ ≡ spaceAfter (a .refusal) space → Promised a after space′
+  promised a after space′ e l s = (e, (l, (s, λ p. rw (e, l) (demand-3 t before (length space) p))))
+
   -- what a refused call promises
   pub refused-said : (r : Refusal) (a : Answer) → a ≡ answered r 0 → r ≡ checked t before (length space) → (numberOf r ≡ 0 → ⊥)
-      → (a ≡ planned t before (length space) .answer) × ((before ≡ planned t before (length space) .labels) × (space ≡ spaceAfter (a .refusal) space))
+      → Promised a before space
   refused-said r a e q n =
       let m : numberOf (checked t before (length space)) ≡ 0 → ⊥ = λ z. n (ap numberOf q ∙ z) in
-      let p = planned-refused m in (
-        e ∙ ap (λ x. answered x 0) q ∙ sym (ap (λ x. x .answer) p),
-        (sym (ap (λ x. x .labels) p), rw e (space-kept r n (rw q (checked-most t before (length space))))),
-      )
+      let p = planned-refused m in
+      promised a before space
+      (e ∙ ap (λ x. answered x 0) q ∙ sym (ap (λ x. x .answer) p))
+      (sym (ap (λ x. x .labels) p))
+      (rw e (space-kept r n (rw q (checked-most t before (length space)))))
 
   -- ---- an answer
 
@@ -116,9 +129,10 @@ module _ (t : Table) (before space : List ℕ) where
   pub answer-said : Passed (checked t before (length space)) → (a : Answer) (after used space′ : List ℕ)
       → a ≡ given (bestPlan t) before .answer → after ≡ given (bestPlan t) before .labels → drop 4608 used ≡ drop 4608 space
       → space′ ≡ replicate spaceBytes 0 ++ drop spaceBytes used
-      → (a ≡ planned t before (length space) .answer) × ((after ≡ planned t before (length space) .labels) × (space′ ≡ spaceAfter (a .refusal) space))
+      → Promised a after space′
   answer-said p a after used space′ e l d s =
-      let q = planned-passed t before (length space) p in (
-        e ∙ sym (ap (λ x. x .answer) q),
-        (l ∙ sym (ap (λ x. x .labels) q), s ∙ ap (λ x. replicate spaceBytes 0 ++ x) (rest-kept used d) ∙ rw e (cleared (bestPlan t))),
-      )
+      let q = planned-passed t before (length space) p in
+      promised a after space′
+      (e ∙ sym (ap (λ x. x .answer) q))
+      (l ∙ sym (ap (λ x. x .labels) q))
+      (s ∙ ap (λ x. replicate spaceBytes 0 ++ x) (rest-kept used d) ∙ rw e (cleared (bestPlan t)))

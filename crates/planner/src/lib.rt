@@ -6,7 +6,8 @@ ghost use Prim.Native.Nat.{_≤_};
 ghost use lib.ListN.{length, drop, replicate};
 ghost use Rattle.labels.specs.Permission.{labelOf};
 ghost use Rattle.table.specs.Tables.{table, rows, Valid};
-ghost use Rattle.table.specs.Planned.{spaceBytes, bestPlan, given, planned, spaceAfter};
+ghost use Rattle.table.specs.Refusals.{numberOf};
+ghost use Rattle.table.specs.Planned.{spaceBytes, checked, bestPlan, given, planned, spaceAfter, Demand3};
 ghost use Rattle.planner.specs.Turned.{permissionOf, Turned, Room, Checked};
 use table::Answer;
 use table::Refusal;
@@ -185,6 +186,7 @@ fn refused(refusal: Refusal) -> Answer
 }
 
 // THE PLANNER. Answer, labels and working space are what the definition `planned` yields, on every input, whatever labels and working space held before.
+// So, spelled out: where all checks before 8 pass, answer and labels are as demand 3 asks.
 pub fn plan(
     kind: Kind,
     ticks: u16,
@@ -198,6 +200,7 @@ pub fn plan(
     ensures answer { λ r. ⌜ r ≡ planned (table kind ticks hours (now (starts .entry)) (now (ends .entry)) (now (marks .entry))) (now (labels .entry)) (length (now (space .entry))) .answer ⌝ }
     ensures labels { λ r. ⌜ now (labels .exit) ≡ planned (table kind ticks hours (now (starts .entry)) (now (ends .entry)) (now (marks .entry))) (now (labels .entry)) (length (now (space .entry))) .labels ⌝ }
     ensures space { λ r. ⌜ now (space .exit) ≡ spaceAfter (r .refusal) (now (space .entry)) ⌝ }
+    ensures demand3 { λ r. ⌜ (numberOf (checked (table kind ticks hours (now (starts .entry)) (now (ends .entry)) (now (marks .entry))) (now (labels .entry)) (length (now (space .entry)))) ≡ 0 → Demand3 (table kind ticks hours (now (starts .entry)) (now (ends .entry)) (now (marks .entry))) r (now (labels .exit))) ⌝ }
 {
     let refusal = table::checks::check_lists(starts.len(), ends.len(), marks.len(), labels.len());
     if table::number(refusal) != 0 {
