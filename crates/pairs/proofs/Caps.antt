@@ -25,6 +25,14 @@ module _ {C : List ℕ → Type 0} where
         bound = λ h l c. omega (arith, p .bound l c);
       }
 
+  -- below the cap the answer is the most itself
+  pub capped-most : {cap r : ℕ} → r < cap → Capped cap C r → Most C r
+  capped-most h p =
+      record {
+        reached = λ k. let f = p .reached k in (f .0, f .1, omega (arith, f .2, p .bound h (f .0) (f .1)));
+        bound = p .bound h;
+      }
+
   -- a class that holds a list that reaches the cap, whatever else it holds
   pub capped-reached : {cap : ℕ} {D : List ℕ → Type 0} → Capped cap D cap → ((l : List ℕ) → D l → C l) → Capped cap C cap
   capped-reached p f =

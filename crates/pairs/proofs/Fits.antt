@@ -1,5 +1,5 @@
 -- The pair theorem: labels of rows in order leave no two arcs of one receiver with a common tick exactly if some pair of crossing rows fits them.
-use Prim.Native.Nat.{ℕ, zero, suc, _+_, _≤_, _<_}
+use Prim.Native.Nat.{ℕ, zero, suc, _≤_, _<_}
 use mathlib.Core.Path.{_≡_, refl, sym, ap, _∙_}
 use mathlib.Core.Logic.{_↔_, _⊎_, inl, inr, ⊎-elim, _≢_}
 use mathlib.Core.Bool.{Bool, true, false, cond, _&&_, _||_, false≢true}
@@ -7,15 +7,15 @@ use mathlib.Core.List.{List}
 use native.Mathlib.Decide.{ℕ-discrete, decLt}
 use native.Mathlib.Nat.{eq-or-lt-of-le, le-of-suc-le-suc}
 use native.Mathlib.Omega.{arith}
-use borrow.Author.Tests.{eqb-true, eqb-false, leb-true, leb-false, le-leb, lt-leb, eq-eqb, ne-eqb}
-use lib.Dec.{leb, ltb, eqb}
+use borrow.Author.Tests.{eqb-true, eqb-false, le-leb, lt-leb}
+use lib.Dec.{leb, eqb}
 use lib.ListN.{length}
-use Rattle.labels.specs.Labels.{at, Assignment}
+use Rattle.labels.specs.Labels.{at}
 use Rattle.labels.specs.Permission.{permits}
 use Rattle.labels.proofs.Tests.{leb-iff, or-iff}
 use Rattle.arcs.specs.Positions.{clear}
 use Rattle.arcs.specs.Order.{Crossing}
-use Rattle.pairs.specs.Pairs.{Cleared, beside, given, leaves, leftOf, PairFit, Within, AnyFit}
+use Rattle.pairs.specs.Pairs.{Cleared, beside, given, leaves, PairFit, AnyFit}
 use Rattle.pairs.proofs.Leaves.{left-iff, chosen, leaves-front, leaves-rest, rest-leaves, given-chosen}
 
 -- ---- arcs by position and end

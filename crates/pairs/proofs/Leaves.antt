@@ -1,14 +1,14 @@
 -- What a pair leaves a row: the permission permits exactly what the row's own permission permits and the pair leaves.
 use Prim.Native.Nat.{ℕ, zero, suc, _+_, _*_, _/_, _%_, _≤_, _<_}
 use mathlib.Core.Path.{_≡_, refl, sym, ap, subst, _∙_}
-use mathlib.Core.Logic.{_↔_, _⊎_, inl, inr, _≢_}
-use mathlib.Core.Bool.{Bool, true, false, cond, _&&_, _||_, false≢true}
+use mathlib.Core.Logic.{_↔_, _≢_}
+use mathlib.Core.Bool.{Bool, true, false, cond, false≢true}
 use mathlib.Core.List.{List, [], _∷_}
 use native.Mathlib.Decide.{decLt}
 use native.Mathlib.Omega.{arith}
-use borrow.Author.Tests.{eqb-true, eq-eqb, ltb-true, lt-ltb, le-ltb, le-leb, lt-leb}
+use borrow.Author.Tests.{eqb-true, eq-eqb, lt-ltb, le-ltb, le-leb, lt-leb}
 use borrow.Author.Count.{below-more}
-use lib.Dec.{leb, ltb, eqb}
+use lib.Dec.{leb, eqb}
 use lib.ListN.{length, set}
 use lib.Seq.{getD-set-same, getD-set-other}
 use Rattle.labels.specs.Labels.{at}
@@ -68,7 +68,7 @@ none-permitted q (suc (suc zero)) e h = omega (arith, eqb-true (q / 4 % 2) 1 h)
 none-permitted q (suc (suc (suc x))) e h = false≢true h
 
 -- the permission at place k is that of the row there
-gathered-at : (order perms : List ℕ) (k : ℕ) → k < length order → at (gathered order perms) k ≡ at perms (at order k)
+pub gathered-at : (order perms : List ℕ) (k : ℕ) → k < length order → at (gathered order perms) k ≡ at perms (at order k)
 gathered-at [] perms k h = absurd (omega arith)
 gathered-at (i ∷ order) perms zero h = refl
 gathered-at (i ∷ order) perms (suc k) h = gathered-at order perms k (omega arith)
@@ -126,14 +126,8 @@ module _ (positions ends : List ℕ) (m w1 w2 : ℕ) where
   given-chosen k x n e = go (eqb k w1) refl (eqb k w2) refl
     where
       go : (a : Bool) → eqb k w1 ≡ a → (b : Bool) → eqb k w2 ≡ b → k ≡ chosen x
-      go true p b q = eqb-true k w1 p ∙ chosen-at x (rw p at e)
-        where
-          chosen-at : (y : ℕ) → 1 ≡ y → w1 ≡ chosen y
-          chosen-at y d = rw (← d)
-      go false p true q = eqb-true k w2 q ∙ chosen-at x (rw (p, q) at e)
-        where
-          chosen-at : (y : ℕ) → 2 ≡ y → w2 ≡ chosen y
-          chosen-at y d = rw (← d)
+      go true p b q = eqb-true k w1 p ∙ ap chosen (rw p at e)
+      go false p true q = eqb-true k w2 q ∙ ap chosen (rw (p, q) at e)
       go false p false q = absurd (n (sym (rw (p, q) at e)))
 
   -- a crossing row that is left with a label is left with the given one

@@ -5,15 +5,14 @@ use mathlib.Core.Bool.{Bool, true, false, false≢true}
 use mathlib.Core.List.{List}
 use native.Mathlib.Decide.{decLt}
 use native.Mathlib.Omega.{arith}
-use borrow.Author.Tests.{eq-eqb, lt-ltb}
-use lib.Dec.{ltb, eqb}
+use lib.Dec.{ltb}
 use lib.ListN.{length, take, drop, getD, length-drop}
 use lib.Seq.{getD-drop, take-all}
 use Rattle.labels.specs.Labels.{at}
 use Rattle.labels.proofs.Tests.{and-iff, ltb-iff, eqb-iff}
 use Rattle.line.specs.Line.{Line, best, rows}
 use Rattle.line.specs.Cells.{lowAt, Lows}
-use Rattle.pairs.specs.Capped.{Most, Capped, Rows, Ready}
+use Rattle.pairs.specs.Capped.{Capped, Rows, Ready}
 use Rattle.pairs.specs.Pairs.{gathered, Cleared, PairFit, Within, AnyFit, Leaving, twice, one, withPair}
 use Rattle.pairs.proofs.Caps.{most-capped, capped-iff, within-none, within-more, within-reached}
 use Rattle.pairs.proofs.Leaves.{bit-le, none-permitted}

@@ -1,17 +1,16 @@
 -- The value of a pair: what it leaves is a line, so the most that its labels hear is the best of the line and the pair's own rows.
 use Prim.Native.Nat.{ℕ, zero, suc, _+_, _-_, _≤_, _<_}
 use mathlib.Core.Path.{_≡_, refl, sym, ap, subst, _∙_}
-use mathlib.Core.Logic.{_↔_, _⊎_, inl, inr, ⊎-elim, _≢_}
 use mathlib.Core.Bool.{Bool, true, false, cond}
 use mathlib.Core.List.{List, [], _∷_, _++_}
 use native.Mathlib.Decide.{ℕ-discrete, decLt}
 use native.Mathlib.Omega.{arith}
 use native.Mathlib.Numerals.{add-one}
 use borrow.Author.Tests.{eqb-true, lt-ltb, le-ltb, lt-leb, eq-eqb, ne-eqb}
-use lib.Dec.{leb, ltb, eqb}
-use lib.ListN.{length, take, drop, getD, length-append, length-drop, take-append-drop, List·getD-append}
+use lib.Dec.{eqb}
+use lib.ListN.{length, take, drop, length-append, length-drop, take-append-drop, List·getD-append}
 use lib.Seq.{getD-drop, getD-append-add, take-all}
-use Rattle.labels.specs.Labels.{at, hears, heard, Assignment}
+use Rattle.labels.specs.Labels.{at, hears, heard}
 use Rattle.labels.specs.Permission.{permits}
 use Rattle.labels.proofs.Heard.{heard-nil, heard-append, heard-more, heard-le}
 use Rattle.arcs.specs.Order.{key, InOrder, Crossing}

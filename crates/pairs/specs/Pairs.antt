@@ -2,12 +2,12 @@
 use mathlib.Core.Path.{_≡_}
 use mathlib.Core.Logic.{_⊎_}
 use mathlib.Core.Bool.{Bool, true, false, cond, _&&_, _||_}
-use mathlib.Core.List.{List, [], _∷_, map}
+use mathlib.Core.List.{List, map}
 use Prim.Native.Nat.{ℕ, zero, suc, _+_, _*_, _/_, _%_, _≤_, _<_}
 use lib.Dec.{leb, ltb, eqb}
 use lib.ListN.{length}
 use Rattle.labels.specs.Labels.{at, Assignment}
-use Rattle.labels.specs.Permission.{permits, only}
+use Rattle.labels.specs.Permission.{permits}
 use Rattle.arcs.specs.Positions.{clear}
 
 -- the permissions of the rows in order: place k has that of row `order k`

@@ -1,5 +1,5 @@
 -- Two classes of label lists hear alike if each list of the one has a list of the other that hears as many. What a capped count says of the one it says of the other.
-use Prim.Native.Nat.{ℕ, zero, suc, _≤_, _<_}
+use Prim.Native.Nat.{ℕ, zero, suc, _<_}
 use mathlib.Core.Path.{_≡_, refl, _∙_}
 use mathlib.Core.Logic.{_↔_}
 use mathlib.Core.List.{List}
@@ -9,14 +9,14 @@ use Rattle.pairs.specs.Capped.{Capped}
 use Rattle.tracks.specs.Tracks.{Most}
 
 -- each list of C has a list of D that hears as many
-abbrev pub Echoes : (List ℕ → Type 0) → (List ℕ → Type 0) → Type 0
-Echoes C D = (l : List ℕ) → C l → (k : List ℕ) × D k × (heard k ≡ heard l)
+abbrev pub Matched : (List ℕ → Type 0) → (List ℕ → Type 0) → Type 0
+Matched C D = (l : List ℕ) → C l → (k : List ℕ) × D k × (heard k ≡ heard l)
 
 abbrev pub Alike : (List ℕ → Type 0) → (List ℕ → Type 0) → Type 0
-Alike C D = Echoes C D × Echoes D C
+Alike C D = Matched C D × Matched D C
 
-echoes-trans : {C D E : List ℕ → Type 0} → Echoes C D → Echoes D E → Echoes C E
-echoes-trans f g l c =
+matched-trans : {C D E : List ℕ → Type 0} → Matched C D → Matched D E → Matched C E
+matched-trans f g l c =
     let a = f l c in
     let b = g (a .0) (a .1) in
     (b .0, b .1, b .2 ∙ a .2)
@@ -28,7 +28,7 @@ pub alike-sym : {C D : List ℕ → Type 0} → Alike C D → Alike D C
 alike-sym a = (a .1, a .0)
 
 pub alike-trans : {C D E : List ℕ → Type 0} → Alike C D → Alike D E → Alike C E
-alike-trans a b = (echoes-trans (a .0) (b .0), echoes-trans (b .1) (a .1))
+alike-trans a b = (matched-trans (a .0) (b .0), matched-trans (b .1) (a .1))
 
 -- classes with the same lists hear alike
 pub alike-iff : {C D : List ℕ → Type 0} → ((l : List ℕ) → C l ↔ D l) → Alike C D

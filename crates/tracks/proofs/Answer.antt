@@ -1,8 +1,8 @@
 -- From the oracle's answers about rows in order to the best assignment of the arcs as they came.
-use Prim.Native.Nat.{ℕ, zero, suc, _+_, _-_, _≤_, _<_}
+use Prim.Native.Nat.{ℕ, _-_, _≤_, _<_}
 use mathlib.Core.Path.{_≡_, refl, sym, ap, _∙_}
-use mathlib.Core.Bool.{Bool, true, false, false≢true}
-use mathlib.Core.List.{List, map}
+use mathlib.Core.Bool.{true, false, false≢true}
+use mathlib.Core.List.{List}
 use native.Mathlib.Omega.{arith}
 use lib.ListN.{length, drop, take, length-drop}
 use lib.Seq.{drop-drop, take-all}
@@ -11,16 +11,16 @@ use Rattle.labels.proofs.Heard.{heard-le}
 use Rattle.arcs.specs.Arcs.{Arcs, Meet, Assigned}
 use Rattle.arcs.specs.Order.{Arranged}
 use Rattle.pairs.specs.Capped.{Capped}
-use Rattle.tracks.specs.Tracks.{Lent, Most, Answered, Solved}
+use Rattle.tracks.specs.Tracks.{Most, Solved}
 use Rattle.tracks.specs.Narrowing.{Ordered, Narrowed}
 use Rattle.tracks.proofs.Alike.{capped-alike, capped-most}
 use Rattle.tracks.proofs.Arranged.{arranged-alike}
 use Rattle.tracks.proofs.Narrowing.{narrowed-answered, narrowed-alike}
 
-module _ {C : ℕ} {ss ls ps es order : List ℕ} {m r : ℕ} (A : Arcs C ss ls) (R : Arranged C ss ls ps es order m) (perms : List ℕ) (each : length perms ≡ length ss) (K : Capped 66 (Ordered ps es order perms) r) where
-  -- at most 64 rows are heard, so the cap 66 is never reached
+module _ {C : ℕ} {ss ls ps es order : List ℕ} {m cap r : ℕ} (A : Arcs C ss ls) (R : Arranged C ss ls ps es order m) (perms : List ℕ) (each : length perms ≡ length ss) (over : 65 < cap) (K : Capped cap (Ordered ps es order perms) r) where
+  -- at most 64 rows are heard, so a cap over 65 is not reached
   most : Most (Assigned C ss ls perms) r
-  most = capped-most (omega arith) (λ l a. omega (arith, heard-le l, a .each, A .few)) (capped-alike (arranged-alike A R perms each) K)
+  most = capped-most (omega arith) (λ l a. omega (arith, heard-le l, a .each, A .few, over)) (capped-alike (arranged-alike A R perms each) K)
 
   pub solved-count : Solved (Assigned C ss ls perms) false r perms perms
   solved-count = record { most = most; answered = λ e. absurd (false≢true e); kept = λ e. refl }

@@ -83,8 +83,8 @@ module _ {C : ℕ} {ss ls ps es order : List ℕ} {m : ℕ} (A : Arcs C ss ls) (
       k (omega (arith, R .counted .each, lengths .2)))
 
   -- what the oracle is lent, once the low rows are set
-  pub arranged-ready : {perms left space : List ℕ} {cap : ℕ} → length perms ≡ length ss → length left ≡ length ss → 1 ≤ cap → Lows (drop m ps) (drop m es) space → Ready ps es order perms m cap left space
-  arranged-ready e f h L =
+  pub arranged-ready : (perms left : List ℕ) {space : List ℕ} {cap : ℕ} → length perms ≡ length ss → length left ≡ length ss → 1 ≤ cap → Lows (drop m ps) (drop m es) space → Ready ps es order perms m cap left space
+  arranged-ready perms left e f h L =
       let g = rearranged-lengths (R .rearranged) in
       record {
         few = rw (lengths .2) (A .few);

@@ -1,18 +1,17 @@
 -- Narrowing finds the best assignment: what is known when the rows below i have one label each, and that one more row keeps it so.
-use Prim.Native.Nat.{ℕ, zero, suc, _≤_, _<_}
+use Prim.Native.Nat.{ℕ, suc, _≤_, _<_}
 use mathlib.Core.Path.{_≡_, refl, sym, ap, subst, _∙_}
 use mathlib.Core.Logic.{_≢_, _⊎_, inl, inr, ⊎-elim}
 use mathlib.Core.Bool.{true, false, false≢true}
-use mathlib.Core.List.{List, [], _∷_, map}
+use mathlib.Core.List.{List, map}
 use native.Mathlib.Omega.{arith}
 use native.Mathlib.Decide.{decLt, ℕ-discrete}
-use lib.ListN.{length, getD, set, length-map, length-set}
+use lib.ListN.{length, set, length-map, length-set}
 use lib.Seq.{ext-getD, getD-set-same, getD-set-other}
 use Rattle.labels.specs.Labels.{at, heard, place, Earlier, Assignment, Best}
 use Rattle.labels.specs.Permission.{permits, only, labelOf}
-use Rattle.pairs.specs.Capped.{Capped}
 use Rattle.tracks.specs.Tracks.{Most, Answered}
-use Rattle.tracks.specs.Narrowing.{Falls, Holds, Chosen, Narrowed, none, more}
+use Rattle.tracks.specs.Narrowing.{CannotHave, CanHave, Chosen, Narrowed, none, more}
 use Rattle.tracks.proofs.Alike.{Alike, capped-alike}
 use Rattle.tracks.proofs.Arranged.{at-map}
 use Rattle.tracks.proofs.Permissions.{permits-label, permits-only, only-permits, label-only, place-only, earlier-at}
@@ -117,16 +116,16 @@ module _ {n : ℕ} {clash : ℕ → ℕ → Type 0} {perms : List ℕ} {opt i : 
   within : i < length perms′
   within = omega (arith, S .each)
 
-  -- no list that hears the most and has the labels so far has a label that falls
-  falls-refused : {x : ℕ} → Falls (Under n clash) opt perms′ i (at perms′ i) x → {l : List ℕ} → Under n clash perms l → suc (heard l) ≡ opt → Agrees perms′ i l → at l i ≡ x → ⊥
-  falls-refused {x} (inl p) {l} A e f q = false≢true (sym p ∙ rw (q, ← S .rest i (omega arith)) at (A .allowed i inside))
-  falls-refused {x} (inr (r, K, h)) {l} A e f q =
+  -- no list that hears the most and has the labels so far has a label that row i cannot have
+  cannot-refused : {x : ℕ} → CannotHave (Under n clash) opt perms′ i (at perms′ i) x → {l : List ℕ} → Under n clash perms l → suc (heard l) ≡ opt → Agrees perms′ i l → at l i ≡ x → ⊥
+  cannot-refused {x} (inl p) {l} A e f q = false≢true (sym p ∙ rw (q, ← S .rest i (omega arith)) at (A .allowed i inside))
+  cannot-refused {x} (inr (r, K, h)) {l} A e f q =
       omega (arith, K .bound h l (set-under perms′ within x (narrower S A f) q (permits-label (at perms i) x (rw q at (A .allowed i inside)))))
 
   module _ (bound : (l : List ℕ) → Under n clash perms l → suc (heard l) ≤ opt) (some : 0 < opt) {x : ℕ} (N : Chosen (Under n clash) opt perms′ i (at perms′ i) x) where
     -- a list under the narrowed permissions that hears the most with the chosen label
     reached : (l : List ℕ) × Under n clash perms′ l × (suc (heard l) ≡ opt) × (at l i ≡ x)
-    reached = go (N .holds)
+    reached = go (N .can)
       where
         best : List ℕ
         best = S .optimal .0
@@ -135,11 +134,11 @@ module _ {n : ℕ} {clash : ℕ → ℕ → Type 0} {perms : List ℕ} {opt i : 
         under = S .optimal .1
 
         only-label : ((y : ℕ) → place x < place y → permits (at perms′ i) y ≡ false) → (place (at best i) < place x) ⊎ ((place (at best i) ≡ place x) ⊎ (place x < place (at best i))) → at best i ≡ x
-        only-label f (inl h) = absurd (falls-refused (N .earlier (at best i) h) (widened S under (omega arith)) (S .optimal .2) (under-agrees S under (omega arith)) refl)
+        only-label f (inl h) = absurd (cannot-refused (N .earlier (at best i) h) (widened S under (omega arith)) (S .optimal .2) (under-agrees S under (omega arith)) refl)
         only-label f (inr (inl h)) = place-only (at best i) x (permits-label (at perms′ i) (at best i) (under .allowed i inside)) (N .label) h
         only-label f (inr (inr h)) = absurd (false≢true (sym (f (at best i) h) ∙ under .allowed i inside))
 
-        go : Holds (Under n clash) opt perms′ i (at perms′ i) x → (l : List ℕ) × Under n clash perms′ l × (suc (heard l) ≡ opt) × (at l i ≡ x)
+        go : CanHave (Under n clash) opt perms′ i (at perms′ i) x → (l : List ℕ) × Under n clash perms′ l × (suc (heard l) ≡ opt) × (at l i ≡ x)
         go (inl f) = (best, under, S .optimal .2, only-label f (compared (place (at best i)) (place x)))
         go (inr (p, K)) =
             let w = K .reached some in
@@ -179,7 +178,7 @@ module _ {n : ℕ} {clash : ℕ → ℕ → Type 0} {perms : List ℕ} {opt i : 
 
         compare-row : {l : List ℕ} → Under n clash perms l → suc (heard l) ≡ opt → Agrees perms′ i l
             → (place (at l i) < place x) ⊎ ((place (at l i) ≡ place x) ⊎ (place x < place (at l i))) → Agrees (set perms′ i (only x)) (suc i) l ⊎ Later (set perms′ i (only x)) (suc i) l
-        compare-row {l} A e f (inl h) = absurd (falls-refused (N .earlier (at l i) h) A e f refl)
+        compare-row {l} A e f (inl h) = absurd (cannot-refused (N .earlier (at l i) h) A e f refl)
         compare-row {l} A e f (inr (inl h)) = inl (λ j k. go (last-or i j k))
           where
             go : {j : ℕ} → (j < i) ⊎ (j ≡ i) → at l j ≡ fixed (set perms′ i (only x)) j
@@ -249,7 +248,7 @@ module _ {A B : List ℕ → List ℕ → Type 0} {n : ℕ} (alike : (perms : Li
       record {
         label = K .label;
         earlier = λ y h. ⊎-elim inl (λ w. inr (w .0, capped-alike (tried y) (w .1), w .2)) (K .earlier y h);
-        holds = ⊎-elim inl (λ w. inr (w .0, capped-alike (tried x) (w .1))) (K .holds);
+        can = ⊎-elim inl (λ w. inr (w .0, capped-alike (tried x) (w .1))) (K .can);
       }
     where
       tried : (y : ℕ) → Alike (A (set perms i (only y))) (B (set perms i (only y)))

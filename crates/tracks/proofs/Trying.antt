@@ -1,19 +1,19 @@
 -- What trying a label for a row shows, and what the labels tried say of the label chosen.
-use Prim.Native.Nat.{ℕ, zero, suc, _+_, _≤_, _<_}
-use mathlib.Core.Path.{_≡_, refl, sym, ap, _∙_}
-use mathlib.Core.Logic.{_⊎_, inl, inr, ⊎-elim}
+use Prim.Native.Nat.{ℕ, zero, suc, _≤_, _<_}
+use mathlib.Core.Path.{_≡_, refl, sym, _∙_}
+use mathlib.Core.Logic.{inl, inr}
 use mathlib.Core.Bool.{Bool, true, false, false≢true}
 use mathlib.Core.List.{List}
 use native.Mathlib.Omega.{arith}
 use lib.Dec.{eqb}
-use lib.ListN.{length, getD, set, drop, length-drop}
-use lib.Seq.{set-set, getD-drop}
+use lib.ListN.{length, set, drop}
+use lib.Seq.{set-set}
 use borrow.Author.Tests.{eqb-true, eqb-false}
-use Rattle.labels.specs.Labels.{at, place}
+use Rattle.labels.specs.Labels.{place}
 use Rattle.labels.specs.Permission.{permits, only}
-use Rattle.line.specs.Cells.{lowAt, Lows}
 use Rattle.pairs.specs.Capped.{Capped, Ready}
-use Rattle.tracks.specs.Narrowing.{Falls, Holds, Chosen, Tried, Row}
+use Rattle.pairs.proofs.Trials.{ready-again}
+use Rattle.tracks.specs.Narrowing.{CannotHave, CanHave, Chosen, Tried, RowReady}
 
 -- no label comes after 0
 pub none-later : (p y : ℕ) → place 0 < place y → permits p y ≡ false
@@ -74,64 +74,51 @@ before-0 P f g (suc (suc zero)) h = g
 before-0 P f g (suc (suc (suc y))) h = absurd (omega arith)
 
 -- the labels tried before, and the one that was taken
-module _ {A : List ℕ → List ℕ → Type 0} {cap : ℕ} {perms perms₁ : List ℕ} {i p : ℕ} where
-  pub chosen-1 : Tried A cap perms i p 1 perms₁ true → Chosen A cap perms i p 1
+module _ {A : List ℕ → List ℕ → Type 0} {cap : ℕ} {perms perms₁ : List ℕ} {i p : ℕ} {t : Bool} (T : Tried A cap perms i p 1 perms₁ t) where
+  pub chosen-1 : t ≡ true → Chosen A cap perms i p 1
   unfolding place
-  chosen-1 T = record { label = omega arith; earlier = λ y h. absurd (omega arith); holds = T .yes refl .1 }
+  chosen-1 e = record { label = omega arith; earlier = λ y h. absurd (omega arith); can = T .yes e .1 }
 
   -- what a second try says of the permissions before the first
-  falls-first : (x : ℕ) → Tried A cap perms i p 1 perms₁ false → Falls A cap perms₁ i p x → Falls A cap perms i p x
-  falls-first x T f = rw (T .others (only x)) at f
+  cannot-first : (x : ℕ) → CannotHave A cap perms₁ i p x → CannotHave A cap perms i p x
+  cannot-first x f = rw (T .others (only x)) at f
 
-  holds-first : (x : ℕ) → Tried A cap perms i p 1 perms₁ false → Holds A cap perms₁ i p x → Holds A cap perms i p x
-  holds-first x T f = rw (T .others (only x)) at f
+  can-first : (x : ℕ) → CanHave A cap perms₁ i p x → CanHave A cap perms i p x
+  can-first x f = rw (T .others (only x)) at f
 
-  module _ {perms₂ : List ℕ} (T : Tried A cap perms i p 1 perms₁ false) where
-    pub chosen-2 : Tried A cap perms₁ i p 2 perms₂ true → Chosen A cap perms i p 2
-    chosen-2 U = record { label = omega arith; earlier = before-2 (Falls A cap perms i p) (T .no refl); holds = holds-first 2 T (U .yes refl .1) }
+  module _ {perms₂ : List ℕ} {u : Bool} (U : Tried A cap perms₁ i p 2 perms₂ u) where
+    pub chosen-2 : t ≡ false → u ≡ true → Chosen A cap perms i p 2
+    chosen-2 e f = record { label = omega arith; earlier = before-2 (CannotHave A cap perms i p) (T .no e); can = can-first 2 (U .yes f .1) }
 
-    pub set-2 : Tried A cap perms₁ i p 2 perms₂ true → perms₂ ≡ set perms i (only 2)
-    set-2 U = U .yes refl .0 ∙ T .others (only 2)
+    pub set-2 : u ≡ true → perms₂ ≡ set perms i (only 2)
+    set-2 f = U .yes f .0 ∙ T .others (only 2)
 
-    pub chosen-0 : Tried A cap perms₁ i p 2 perms₂ false → Chosen A cap perms i p 0
-    chosen-0 U = record { label = omega arith; earlier = before-0 (Falls A cap perms i p) (T .no refl) (falls-first 2 T (U .no refl)); holds = inl (none-later p) }
+    pub chosen-0 : t ≡ false → u ≡ false → Chosen A cap perms i p 0
+    chosen-0 e f = record { label = omega arith; earlier = before-0 (CannotHave A cap perms i p) (T .no e) (cannot-first 2 (U .no f)); can = inl (none-later p) }
 
-    pub set-0 : Tried A cap perms₁ i p 2 perms₂ false → (q : ℕ) → set perms₂ i q ≡ set perms i q
-    set-0 U q = U .others q ∙ T .others q
+    pub set-0 : (q : ℕ) → set perms₂ i q ≡ set perms i q
+    set-0 q = U .others q ∙ T .others q
 
--- the low rows stand after the cells, which alone an answer of the oracle changes
-pub lows-kept : {starts ends space space′ : List ℕ} → Lows starts ends space → drop 4225 space′ ≡ drop 4225 space → Lows starts ends space′
-lows-kept {starts} {ends} {space} {space′} L e =
-    record {
-      long = omega (arith, L .long, length-drop 4225 space, length-drop 4225 space′, ap length e);
-      within = λ k h. rw (← same k) at (L .within k h);
-      over = λ k i h g. L .over k i h (rw (same k) at g);
-    }
-  where
-    same : (k : ℕ) → lowAt space′ k ≡ lowAt space k
-    same k = sym (getD-drop 4225 space′ k 0) ∙ ap (λ l. getD l k 0) e ∙ getD-drop 4225 space k 0
-
--- what the oracle is lent serves again for other permissions
-pub ready-again : {positions ends order perms perms′ : List ℕ} {m cap cap′ : ℕ} {left left′ space space′ : List ℕ}
-    → Ready positions ends order perms m cap left space
-    → length perms′ ≡ length perms → 1 ≤ cap′ → length left′ ≡ length left → drop 4225 space′ ≡ drop 4225 space
-    → Ready positions ends order perms′ m cap′ left′ space′
-ready-again R e h f d =
+-- the oracle is lent the same with other permissions and another cap
+pub ready-for : {positions ends order perms perms′ : List ℕ} {m cap cap′ : ℕ} {left space : List ℕ}
+    → Ready positions ends order perms m cap left space → length perms′ ≡ length perms → 1 ≤ cap′ → Ready positions ends order perms′ m cap′ left space
+ready-for R e h =
     record {
       few = R .few;
       each-end = R .each-end;
       each-order = R .each-order;
       each-perm = e ∙ R .each-perm;
-      each-left = f ∙ R .each-left;
+      each-left = R .each-left;
       ordered = R .ordered;
       crossing = R .crossing;
       row = R .row;
-      lows = lows-kept (R .lows) d;
+      lows = R .lows;
       cap-some = h;
     }
 
+-- the next try is lent the same, if the lists have kept their lengths and the space its low rows
 pub row-again : {positions ends order perms perms′ : List ℕ} {m cap : ℕ} {left left′ space space′ : List ℕ} {i : ℕ}
-    → Row positions ends order perms m cap left space i
-    → length perms′ ≡ length perms → length left′ ≡ length left → drop 4225 space′ ≡ drop 4225 space
-    → Row positions ends order perms′ m cap left′ space′ i
-row-again R e f d = record { ready = ready-again (R .ready) e (R .ready .cap-some) f d; row-below = rw e (R .row-below) }
+    → RowReady positions ends order perms m cap left space i
+    → length perms′ ≡ length perms → length left′ ≡ length left → length space′ ≡ length space → drop 4225 space′ ≡ drop 4225 space
+    → RowReady positions ends order perms′ m cap left′ space′ i
+row-again R e f g d = record { ready = ready-for (ready-again (R .ready) f g d) e (R .ready .cap-some); row-below = rw e (R .row-below) }

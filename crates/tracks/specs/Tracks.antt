@@ -6,20 +6,16 @@ use Prim.Native.Nat.{ℕ, suc, _≤_, _<_}
 use lib.ListN.{length, drop}
 use Rattle.labels.specs.Labels.{heard, Best}
 use Rattle.labels.specs.Permission.{labelOf}
-use Rattle.arcs.specs.Arcs.{Arcs, Assigned}
+use Rattle.arcs.specs.Arcs.{Arcs}
 use Rattle.arcs.specs.Order.{Arranged}
 use Rattle.line.specs.Cells.{Lows}
+pub use Rattle.pairs.specs.Capped.{Most}
 
 -- what the functions are lent: arcs within their circle, a permission for each, and working space
 pub record Lent (C : ℕ) (starts lengths perms space : List ℕ) : Type 0 where
   pub arcs : Arcs C starts lengths
   pub each-perm : length perms ≡ length starts
   pub room : 4608 ≤ length space
-
--- the most that a list in C hears, and one more; 0 where C is empty
-pub record Most (C : List ℕ → Type 0) (r : ℕ) : Type 0 where
-  pub reached : 0 < r → (l : List ℕ) × C l × (suc (heard l) ≡ r)
-  pub bound : (l : List ℕ) → C l → suc (heard l) ≤ r
 
 -- The answer of `best_assignment`: 0 where there is no assignment; else the permissions permit one label a row, those of the best assignment, and the answer is its count and one more.
 pub record Answered (C : List ℕ → Type 0) (r : ℕ) (perms : List ℕ) : Type 0 where

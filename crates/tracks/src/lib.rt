@@ -1,17 +1,19 @@
 // The best two-track assignment of arcs under permissions.
 ghost use mathlib.Core.Path.{_≡_};
-ghost use mathlib.Core.Logic.{_≢_};
-ghost use mathlib.Core.Bool.{Bool, true, false};
+ghost use mathlib.Core.Bool.{true, false};
 ghost use Prim.Native.Nat.{ℕ, _≤_, _<_};
 ghost use lib.ListN.{length, drop, set};
 ghost use Rattle.labels.specs.Labels.{at, place};
 ghost use Rattle.labels.specs.Permission.{permits, only};
 ghost use Rattle.arcs.specs.Arcs.{Arcs, Assigned};
-ghost use Rattle.arcs.specs.Order.{Arranged};
-ghost use Rattle.line.specs.Cells.{Lows};
 ghost use Rattle.pairs.specs.Capped.{Ready};
 ghost use Rattle.tracks.specs.Tracks.{Lent, Most, Answered, Solved, Prepared};
-ghost use Rattle.tracks.specs.Narrowing.{Ordered, Chosen, Narrowed, Tried, Row};
+ghost use Rattle.tracks.specs.Narrowing.{Ordered, Chosen, Narrowed, Tried, RowReady};
+
+// The order in which labels are tried: receiver 1, the other receiver, and last not heard.
+const FIRST: u8 = 1;
+
+const SECOND: u8 = 3 - FIRST;
 
 // Whether a permission permits a label.
 fn may_have(perm: u8, label: u8) -> bool
@@ -68,7 +70,7 @@ fn take_label(
     perm: u8,
     label: u8,
 ) -> bool
-    requires { ⌜ Row (now positions) (now ends) (now order) (now perms) m cap (now left) (now space) i ⌝ }
+    requires { ⌜ RowReady (now positions) (now ends) (now order) (now perms) m cap (now left) (now space) i ⌝ }
     requires { ⌜ label ≤ 2 ⌝ }
     ensures { λ r. ⌜ Tried (Ordered (now (positions .entry)) (now (ends .entry)) (now (order .entry))) cap (now (perms .entry)) i perm label (now (perms .exit)) r ⌝ }
     ensures { λ r. ⌜ drop 4225 (now (space .exit)) ≡ drop 4225 (now (space .entry)) ⌝ }
@@ -96,7 +98,7 @@ fn narrow_row(
     space: &mut [u8],
     i: usize,
 ) -> u8
-    requires { ⌜ Row (now positions) (now ends) (now order) (now perms) m cap (now left) (now space) i ⌝ }
+    requires { ⌜ RowReady (now positions) (now ends) (now order) (now perms) m cap (now left) (now space) i ⌝ }
     ensures { λ r. ⌜ Chosen (Ordered (now (positions .entry)) (now (ends .entry)) (now (order .entry))) cap (now (perms .entry)) i (at (now (perms .entry)) i) r ⌝ }
     ensures { λ r. ⌜ now (perms .exit) ≡ set (now (perms .entry)) i (only r) ⌝ }
     ensures { λ r. ⌜ drop 4225 (now (space .exit)) ≡ drop 4225 (now (space .entry)) ⌝ }
@@ -113,9 +115,9 @@ fn narrow_row(
         space,
         i,
         perm,
-        1,
+        FIRST,
     ) {
-        return 1;
+        return FIRST;
     }
     if take_label(
         positions,
@@ -128,9 +130,9 @@ fn narrow_row(
         space,
         i,
         perm,
-        2,
+        SECOND,
     ) {
-        return 2;
+        return SECOND;
     }
     perms[i] = only_label(0);
     0
@@ -203,7 +205,8 @@ fn solve_lent(
     best
 }
 
-// The same, with the arrays that it needs. These are all the arrays that functions of this crate hold: 128 bytes in sum.
+// The same, with the arrays that it needs: 128 bytes, the sum of all arrays that functions of this crate hold. With the 320 bytes that the planner lends
+// (two `[u16; 64]` and one `[u8; 64]`) that is 448 of at most 512.
 fn solve(
     circle: u16,
     starts: &mut [u16],

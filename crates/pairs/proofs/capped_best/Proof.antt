@@ -1,5 +1,5 @@
 -- `pairs::capped_best` meets its contract: the loop has tried the pairs with their first row from w1 on, and labels leave no meeting arcs on one receiver exactly if some pair fits them.
-use Prim.Native.Nat.{_≤_}
+use mathlib.Core.Path.{_∙_}
 use native.Mathlib.Omega.{arith}
 use borrow.Author.Needs.{needs}
 use Rattle.pairs.specs.Pairs.{gathered, SecondFit}
@@ -27,13 +27,24 @@ second-best-requires : tie.Need-second-best-requires Inv-loop μ-loop
 second-best-requires c κs = tried-ready (c .before .before .before .loop .inv) (c .before .before .before .before .before .before .before .before .before .before .pre)
 
 same-length : tie.Need-same-length Inv-loop μ-loop
-same-length c = omega arith
+same-length c =
+    let p = c .before .before .before .before .before in
+    p .second-best .kept .1 .1 .1 .1 .1 .1 .1 .0
+    ∙ p .before .before .before .before .loop .inv .same-left
 
 same-length-2 : tie.Need-same-length-2 Inv-loop μ-loop
-same-length-2 c = omega arith
+same-length-2 c =
+    let p = c .before .before .before .before .before in
+    p .second-best .kept .1 .1 .1 .1 .1 .1 .1 .1 .0
+    ∙ p .before .before .before .before .loop .inv .same-space
 
 returns : tie.Need-returns Inv-loop μ-loop
-returns c = any-cleared (c .before .before .before .before .before .before .before .before .before .before .before .before .before .before .before .before .pre) (tried-reached (c .before .before .before .before .before .before .before .before .before .loop .inv) (c .before .before .before .before .before .before .before .before .loop-test .taken) (c .before .before .before .before .before .second-best .ensures .0) (c .if1 .taken) (c .before .before .before .before .before .second-best .ensures .1))
+returns c =
+    let p = c .before .before .before .before .before in
+    let t = p .before .before .before in
+    let l = t .before in
+    any-cleared (l .before .before .before .before .before .before .before .pre)
+    (tried-reached (l .loop .inv) (t .loop-test .taken) (p .second-best .ensures .0) (c .if1 .taken) (p .second-best .ensures .1))
 
 larger-requires : tie.Need-larger-requires Inv-loop μ-loop
 larger-requires c κs = search needs
@@ -43,8 +54,11 @@ loop-less c = omega arith
 
 loop-again : tie.Need-loop-again Inv-loop μ-loop
 loop-again c =
-    tried-more (c .before .before .before .before .before .before .before .before .before .before .loop .inv) (c .before .before .before .before .before .before .before .before .before .loop-test .taken) (c .before .before .before .before .before .before .second-best .ensures .0) (omega arith) (omega arith) (c .before .before .before .before .before .before .second-best .ensures .1)
-    (c .larger .ensures)
+    let p = c .before .before .before .before .before .before in
+    let t = p .before .before .before in
+    let l = t .before in
+    tried-more (l .loop .inv) (t .loop-test .taken) (p .second-best .ensures .0) (p .second-best .kept .1 .1 .1 .1 .1 .1 .1 .0) (p .second-best .kept .1 .1 .1 .1 .1 .1 .1 .1 .0)
+    (p .second-best .ensures .1) (c .larger .ensures)
 
 same-length-3 : tie.Need-same-length-3 Inv-loop μ-loop
 same-length-3 c = c .before .loop .inv .same-left

@@ -1,5 +1,5 @@
 -- `pairs::leave` meets its contract: the loop has written what the pair leaves of the permissions that it passed, none of them 0.
-use Prim.Native.Nat.{ℕ, _≤_, _-_, _+_}
+use Prim.Native.Nat.{ℕ, _≤_, _-_}
 use mathlib.Core.Path.{_≡_, refl, sym, subst, _∙_}
 use mathlib.Core.Bool.{true, false, false≢true}
 use native.Mathlib.Omega.{arith}

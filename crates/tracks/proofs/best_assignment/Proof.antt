@@ -1,5 +1,5 @@
 -- `tracks::best_assignment` meets its contract: the search with narrowing.
-use mathlib.Core.Path.{_≡_, refl}
+use mathlib.Core.Path.{refl}
 use Rattle.tracks.proofs.best_assignment.Statement.{statement}
 use Rattle.tracks.proofs.best_assignment.Tie as tie
 

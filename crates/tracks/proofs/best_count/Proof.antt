@@ -1,5 +1,5 @@
 -- `tracks::best_count` meets its contract: the search without narrowing.
-use mathlib.Core.Path.{_≡_, refl}
+use mathlib.Core.Path.{refl}
 use Rattle.tracks.proofs.best_count.Statement.{statement}
 use Rattle.tracks.proofs.best_count.Tie as tie
 

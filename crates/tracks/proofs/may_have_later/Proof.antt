@@ -1,5 +1,5 @@
 -- `tracks::may_have_later` meets its contract: 2 and 0 come after 1, and 0 after 2.
-use mathlib.Core.Path.{_≡_, sym, ap, _∙_}
+use mathlib.Core.Path.{_≡_, sym, _∙_}
 use mathlib.Core.Bool.{false≢true}
 use native.Mathlib.Omega.{arith}
 use borrow.Author.Needs.{needs}

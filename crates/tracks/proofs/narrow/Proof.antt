@@ -3,7 +3,8 @@ use Prim.Native.Nat.{_-_}
 use native.Mathlib.Omega.{arith}
 use lib.ListN.{length}
 use Rattle.tracks.specs.Narrowing.{Ordered}
-use Rattle.tracks.proofs.Trying.{ready-again}
+use Rattle.pairs.proofs.Trials.{ready-again}
+use Rattle.tracks.proofs.Trying.{ready-for}
 use Rattle.tracks.proofs.Progress.{Progress, progress-none, progress-more, progress-done}
 use Rattle.tracks.proofs.narrow.Statement.{statement}
 use Rattle.tracks.proofs.narrow.Tie as tie
@@ -21,7 +22,7 @@ narrow-row-requires : tie.Need-narrow-row-requires Inv-loop μ-loop
 narrow-row-requires c κs =
     let R = c .before .before .before .before .before .before .before .before .before .before .before .pre in
     let P = c .before .before .before .before .loop .inv in
-    record { ready = ready-again R (P .each-perm) (R .cap-some) (P .each-left) (P .frame); row-below = c .before .before .before .loop-test .taken }
+    record { ready = ready-for (ready-again R (P .each-left) (P .each-space) (P .frame)) (P .each-perm) (R .cap-some); row-below = c .before .before .before .loop-test .taken }
 
 add-i : tie.Need-add-i Inv-loop μ-loop
 add-i c =
@@ -63,5 +64,3 @@ narrow-spec =
     same-length-2
     same-length-3
     returns)
-
--- x

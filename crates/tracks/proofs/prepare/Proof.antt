@@ -1,5 +1,5 @@
 -- `tracks::prepare` meets its contract: the rows that do not cross the cut stand behind the m that do.
-use mathlib.Core.Path.{_≡_, sym, _∙_}
+use mathlib.Core.Path.{sym, _∙_}
 use borrow.Author.Needs.{needs}
 use Rattle.tracks.proofs.Answer.{take-drop, suffixes}
 use Rattle.tracks.proofs.prepare.Statement.{statement}

@@ -1,10 +1,8 @@
 -- `tracks::take_label` meets its contract: a label is barred, or the last that is permitted, or the oracle was asked.
-use mathlib.Core.Path.{_≡_, refl, sym, ap, _∙_}
-use native.Mathlib.Omega.{arith}
+use mathlib.Core.Path.{refl, sym, _∙_}
 use lib.ListN.{length-set}
-use borrow.Author.Needs.{needs}
 use borrow.Author.Tests.{not-true, not-false}
-use Rattle.tracks.proofs.Trying.{tried-barred, tried-last, tried-asked, ready-again}
+use Rattle.tracks.proofs.Trying.{tried-barred, tried-last, tried-asked, ready-for}
 use Rattle.tracks.proofs.take_label.Statement.{statement}
 use Rattle.tracks.proofs.take_label.Tie as tie
 
@@ -32,16 +30,16 @@ returns-2 c = (rw (c .before .before .only-label .ensures) (tried-last (c .befor
 capped-best-requires : tie.Need-capped-best-requires
 capped-best-requires c κs =
     let R = c .before .before .before .before .before .before .before .before .before .before .before .before .before .before .pre .0 .ready in
-    ready-again R (simp length-set) (R .cap-some) refl refl
+    ready-for R (simp length-set) (R .cap-some)
 
 same-length-2 : tie.Need-same-length-2
 same-length-2 c = simp length-set
 
 same-length-3 : tie.Need-same-length-3
-same-length-3 c = search needs
+same-length-3 c = c .before .before .before .before .capped-best .kept .1 .1 .1 .1 .1 .1 .0
 
 same-length-4 : tie.Need-same-length-4
-same-length-4 c = search needs
+same-length-4 c = c .before .before .before .before .capped-best .kept .1 .1 .1 .1 .1 .1 .1 .0
 
 returns-3 : tie.Need-returns-3
 returns-3 c =

@@ -1,0 +1,190 @@
+// Every label list of a table of at most 7 rows is tried, in paper 01's order, and the first plan that hears most is kept.
+
+// What the search found. `answer` is 0 where there is no plan, else one more than the most that a plan hears.
+pub struct Found {
+    pub answer: u8,
+    // the labels of the first of the plans that hear most, and 0 after the last row; all 0 where there is no plan
+    pub labels: [u8; 8],
+    // how many plans there are, and how many of them hear most
+    pub plans: u32,
+    pub best: u32,
+}
+
+// Rows that have been given labels: whether they obey the rules, how many are heard, and the ticks on which each receiver is busy.
+struct Receivers {
+    fits: bool,
+    heard: u8,
+    busy1: u64,
+    busy2: u64,
+}
+
+// What the search has seen so far; `first` is the number of the first of the best label lists.
+struct Tally {
+    answer: u8,
+    first: u32,
+    plans: u32,
+    best: u32,
+}
+
+// A row may be heard by a receiver if its permission has the receiver's bit and the receiver is busy on none of its ticks.
+fn may_hear(busy: u64, set: u64, permission: u8, receiver: u8) -> bool {
+    if permission & receiver == 0 {
+        return false;
+    }
+    busy & set == 0
+}
+
+// One row more, with the label that stands at `place` in "1 comes before 2, and 2 before 0".
+fn with_row(p: Receivers, set: u64, permission: u8, place: u32) -> Receivers {
+    match place {
+        0 => Receivers {
+            fits: may_hear(p.busy1, set, permission, 2),
+            heard: std::num::wrapping_add_u8(p.heard, 1),
+            busy1: p.busy1 | set,
+            busy2: p.busy2,
+        },
+        1 => Receivers {
+            fits: may_hear(p.busy2, set, permission, 4),
+            heard: std::num::wrapping_add_u8(p.heard, 1),
+            busy1: p.busy1,
+            busy2: p.busy2 | set,
+        },
+        _ => Receivers {
+            fits: permission & 1 != 0,
+            heard: p.heard,
+            busy1: p.busy1,
+            busy2: p.busy2,
+        },
+    }
+}
+
+// The label at a place of that order.
+fn label(place: u32) -> u8 {
+    match place {
+        0 => 1,
+        1 => 2,
+        _ => 0,
+    }
+}
+
+// How many label lists there are.
+fn lists(rows: usize) -> u32 {
+    match rows {
+        0 => 1,
+        1 => 3,
+        2 => 9,
+        3 => 27,
+        4 => 81,
+        5 => 243,
+        6 => 729,
+        _ => 2187,
+    }
+}
+
+fn set_of(sets: &[u64; 8], row: usize) -> u64 {
+    if row < 8 { sets[row] } else { 0 }
+}
+
+fn permission_of(permissions: &[u8; 8], row: usize) -> u8 {
+    if row < 8 { permissions[row] } else { 0 }
+}
+
+// The label list of a number: its digits to base 3 are the places of the labels in the order, the last row's digit the lowest.
+// So the numbers rise as the lists come in paper 01's order. The answer is 0 for no plan, else one more than the list hears.
+fn judge(rows: usize, number: u32, sets: &[u64; 8], permissions: &[u8; 8]) -> u8 {
+    let mut p = Receivers {
+        fits: true,
+        heard: 0,
+        busy1: 0,
+        busy2: 0,
+    };
+    let mut rest = number;
+    let mut row = rows;
+    while 0 < row {
+        row -= 1;
+        p = with_row(
+            p,
+            set_of(sets, row),
+            permission_of(permissions, row),
+            rest % 3,
+        );
+        if !p.fits {
+            return 0;
+        }
+        rest = rest / 3;
+    }
+    std::num::wrapping_add_u8(p.heard, 1)
+}
+
+// The labels of the list of a number.
+fn labels(rows: usize, number: u32) -> [u8; 8] {
+    let mut list = [0u8; 8];
+    let mut rest = number;
+    let mut row = rows;
+    while 0 < row {
+        row -= 1;
+        if row < 8 {
+            list[row] = label(rest % 3);
+        }
+        rest = rest / 3;
+    }
+    list
+}
+
+// One list more. A list takes the place of the first best only if it hears more.
+fn with_list(s: Tally, number: u32, answer: u8) -> Tally {
+    if answer == 0 {
+        return s;
+    }
+    let plans = std::num::wrapping_add_u32(s.plans, 1);
+    if s.answer < answer {
+        return Tally {
+            answer: answer,
+            first: number,
+            plans: plans,
+            best: 1,
+        };
+    }
+    if answer < s.answer {
+        return Tally {
+            answer: s.answer,
+            first: s.first,
+            plans: plans,
+            best: s.best,
+        };
+    }
+    Tally {
+        answer: s.answer,
+        first: s.first,
+        plans: plans,
+        best: std::num::wrapping_add_u32(s.best, 1),
+    }
+}
+
+// The labels of the first of the best lists; all 0 where there is no plan.
+fn best_labels(rows: usize, s: Tally) -> [u8; 8] {
+    if s.answer == 0 {
+        return [0u8; 8];
+    }
+    labels(rows, s.first)
+}
+
+// Tries every label list of the first `rows` rows, at most 7, of which each has a set of ticks and a permission.
+pub fn search(rows: usize, sets: &[u64; 8], permissions: &[u8; 8]) -> Found {
+    let mut s = Tally {
+        answer: 0,
+        first: 0,
+        plans: 0,
+        best: 0,
+    };
+    for number in 0..lists(rows) {
+        s = with_list(s, number, judge(rows, number, sets, permissions));
+    }
+    let labels = best_labels(rows, s);
+    Found {
+        answer: s.answer,
+        labels: labels,
+        plans: s.plans,
+        best: s.best,
+    }
+}

@@ -1,0 +1,2 @@
+-- Laws of the program `tracks_trial`.
+pub mod Laws

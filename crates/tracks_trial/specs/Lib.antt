@@ -1,0 +1,2 @@
+-- What the contracts of the program `tracks_trial` cite.
+pub mod Drawn
