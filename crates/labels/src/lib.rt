@@ -2,6 +2,8 @@
 ghost use mathlib.Core.Path.{_≡_};
 ghost use Rattle.labels.specs.Labels.{hears, heard};
 
+pub mod permission;
+
 // 1 for a label that is 1 or 2, else 0.
 fn hears_one(label: u8) -> usize
     ensures { λ r. ⌜ r ≡ hears label ⌝ }

@@ -9,13 +9,14 @@ ghost use Rattle.line.specs.Line.{when, gain, cell, best, rows, Line};
 ghost use Rattle.line.specs.Cells.{endAt, Lows};
 ghost use Rattle.line.specs.Stage.{carryAt, Live, Turn, LiveBelow, newCell, Small, RowMade, StageMade};
 
-fn wide(x: u8) -> usize
+// A byte as an index: a function of its own, so that callers need not show that it fits.
+pub fn wide(x: u8) -> usize
     ensures { λ r. ⌜ r ≡ x ⌝ }
 {
     x as usize
 }
 
-fn larger(x: u8, y: u8) -> u8
+pub fn larger(x: u8, y: u8) -> u8
     ensures { λ r. ⌜ r ≡ max x y ⌝ }
 {
     if x < y { y } else { x }

@@ -9,26 +9,13 @@ ghost use Rattle.line.specs.Cells.{Lows};
 ghost use Rattle.pairs.specs.Pairs.{gathered, Cleared, beside, restrict, leftOf, PairFit, SecondFit, Leaving, twice, one, withPair};
 ghost use Rattle.pairs.specs.Capped.{Capped, Rows, Ready};
 
-fn wide(x: u8) -> usize
-    ensures { λ r. ⌜ r ≡ x ⌝ }
-{
-    x as usize
-}
-
-// The bit where the test holds, else 0.
-fn kept_bit(test: bool, bit: u8) -> u8
-    ensures { λ r. ⌜ r ≡ cond test bit 0 ⌝ }
-{
-    if test { bit } else { 0 }
-}
-
 // Of the permission q the labels 0, 1 and 2 that the tests leave.
 fn kept_labels(q: u8, zero: bool, one: bool, two: bool) -> u8
     ensures { λ r. ⌜ r ≡ restrict q zero one two ⌝ }
 {
-    let bit0 = kept_bit(zero, q % 2);
-    let bit1 = kept_bit(one, q / 2 % 2);
-    let bit2 = kept_bit(two, q / 4 % 2);
+    let bit0 = labels::permission::bit_if(zero, q % 2);
+    let bit1 = labels::permission::bit_if(one, q / 2 % 2);
+    let bit2 = labels::permission::bit_if(two, q / 4 % 2);
     bit0 + bit1 * 2 + bit2 * 4
 }
 
@@ -86,7 +73,7 @@ fn leave(
 {
     let mut k = 0;
     while k < positions.len() {
-        let row = wide(order[k]);
+        let row = line::wide(order[k]);
         let kept = left_of(positions, ends, m, w1, w2, k, perms[row]);
         if kept == 0 {
             return false;
@@ -95,12 +82,6 @@ fn leave(
         k += 1;
     }
     true
-}
-
-fn larger(x: u8, y: u8) -> u8
-    ensures { λ r. ⌜ r ≡ max x y ⌝ }
-{
-    if x < y { y } else { x }
 }
 
 fn smaller(x: u8, y: u8) -> u8
@@ -196,7 +177,7 @@ fn second_best(
         if cap <= value {
             return cap;
         }
-        best = larger(best, value);
+        best = line::larger(best, value);
     }
     best
 }
@@ -224,7 +205,7 @@ pub fn capped_best(
         if cap <= v {
             return cap;
         }
-        best = larger(best, v);
+        best = line::larger(best, v);
     }
     best
 }

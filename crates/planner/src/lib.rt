@@ -1,6 +1,5 @@
 // The planner: from a lent table to the plan that hears the most, of those the first in paper 01's order, or a refusal.
 ghost use mathlib.Core.Path.{_≡_};
-ghost use mathlib.Core.Bool.{cond};
 ghost use mathlib.Core.List.{_++_, map};
 ghost use Prim.Native.Nat.{_≤_};
 ghost use lib.ListN.{length, drop, replicate};
@@ -16,20 +15,22 @@ use window::Kind;
 // The working space that a call needs and clears, in bytes.
 pub const SPACE_BYTES: usize = 16384;
 
-// The bit where the test holds, else 0.
-fn bit_if(test: bool, bit: u8) -> u8
-    ensures { λ r. ⌜ r ≡ cond test bit 0 ⌝ }
-{
-    if test { bit } else { 0 }
-}
-
 // The labels that a row may have, as a permission.
 fn permission(kind: Kind, hours: [[u16; 2]; 2], start: u16, end: u16, mark: u8) -> u8
     ensures { λ r. ⌜ r ≡ permissionOf kind hours start end mark ⌝ }
 {
-    let zero = bit_if(table::plan::is_allowed(kind, hours, start, end, mark, 0), 1);
-    let one = bit_if(table::plan::is_allowed(kind, hours, start, end, mark, 1), 2);
-    let two = bit_if(table::plan::is_allowed(kind, hours, start, end, mark, 2), 4);
+    let zero = labels::permission::bit_if(
+        table::plan::is_allowed(kind, hours, start, end, mark, 0),
+        1,
+    );
+    let one = labels::permission::bit_if(
+        table::plan::is_allowed(kind, hours, start, end, mark, 1),
+        2,
+    );
+    let two = labels::permission::bit_if(
+        table::plan::is_allowed(kind, hours, start, end, mark, 2),
+        4,
+    );
     zero + one + two
 }
 
@@ -60,18 +61,6 @@ fn turn(
     }
 }
 
-// The label of a permission that permits one label alone.
-fn label_of(perm: u8) -> u8
-    ensures { λ r. ⌜ r ≡ labelOf perm ⌝ }
-{
-    match perm {
-        0 => 3,
-        1 => 0,
-        2 => 1,
-        _ => 2,
-    }
-}
-
 // Writes the label of each permission.
 fn set_labels(perms: &[u8], labels: &mut [u8])
     requires { ⌜ length (now labels) ≡ length (now perms) ⌝ }
@@ -79,7 +68,7 @@ fn set_labels(perms: &[u8], labels: &mut [u8])
 {
     let mut i: usize = 0;
     while i < perms.len() {
-        labels[i] = label_of(perms[i]);
+        labels[i] = labels::permission::label_of(perms[i]);
         i += 1;
     }
 }

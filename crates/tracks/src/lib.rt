@@ -15,30 +15,6 @@ const FIRST: u8 = 1;
 
 const SECOND: u8 = 3 - FIRST;
 
-// Whether a permission permits a label.
-fn may_have(perm: u8, label: u8) -> bool
-    ensures { λ r. ⌜ r ≡ permits perm label ⌝ }
-{
-    match label {
-        0 => perm % 2 == 1,
-        1 => perm / 2 % 2 == 1,
-        2 => perm / 4 % 2 == 1,
-        _ => false,
-    }
-}
-
-// The permission of a label alone.
-fn only_label(label: u8) -> u8
-    ensures { λ r. ⌜ r ≡ only label ⌝ }
-{
-    match label {
-        0 => 1,
-        1 => 2,
-        2 => 4,
-        _ => 0,
-    }
-}
-
 // Whether a permission permits a label that comes after this one, in the order 1, 2, 0.
 fn may_have_later(perm: u8, label: u8) -> bool
     requires { ⌜ label ≤ 2 ⌝ }
@@ -47,13 +23,13 @@ fn may_have_later(perm: u8, label: u8) -> bool
     if label == 0 {
         return false;
     }
-    if may_have(perm, 0) {
+    if labels::permission::may_have(perm, 0) {
         return true;
     }
     if label == 2 {
         return false;
     }
-    may_have(perm, 2)
+    labels::permission::may_have(perm, 2)
 }
 
 // Tries the label for row i, whose permission was perm: it is taken if the best with it alone still reaches the cap. The last label that is permitted needs no try.
@@ -75,10 +51,10 @@ fn take_label(
     ensures { λ r. ⌜ Tried (Ordered (now (positions .entry)) (now (ends .entry)) (now (order .entry))) cap (now (perms .entry)) i perm label (now (perms .exit)) r ⌝ }
     ensures { λ r. ⌜ drop 4225 (now (space .exit)) ≡ drop 4225 (now (space .entry)) ⌝ }
 {
-    if !may_have(perm, label) {
+    if !labels::permission::may_have(perm, label) {
         return false;
     }
-    perms[i] = only_label(label);
+    perms[i] = labels::permission::only_label(label);
     if !may_have_later(perm, label) {
         return true;
     }
@@ -134,7 +110,7 @@ fn narrow_row(
     ) {
         return SECOND;
     }
-    perms[i] = only_label(0);
+    perms[i] = labels::permission::only_label(0);
     0
 }
 

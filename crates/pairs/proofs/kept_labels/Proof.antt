@@ -8,19 +8,19 @@ use Rattle.pairs.proofs.kept_labels.Statement.{statement}
 use Rattle.pairs.proofs.kept_labels.Tie as tie
 
 -- each bit is at most 1
-small : (c : tie.After-kept-bit3) → (c .before .before .kept-bit .result ≤ 1) × (c .before .kept-bit2 .result ≤ 1) × (c .kept-bit3 .result ≤ 1)
+small : (c : tie.After-bit-if3) → (c .before .before .bit-if .result ≤ 1) × (c .before .bit-if2 .result ≤ 1) × (c .bit-if3 .result ≤ 1)
 small c =
     let a = c .before .before .before .args in
     (omega (arith, bit-le (a .zero) (a .q % 2) (omega arith)), omega (arith, bit-le (a .one) (a .q / 2 % 2) (omega arith)), omega (arith, bit-le (a .two) (a .q / 4 % 2) (omega arith)))
 
-kept-bit-requires : tie.Need-kept-bit-requires
-kept-bit-requires c κs = search needs
+bit-if-requires : tie.Need-bit-if-requires
+bit-if-requires c κs = search needs
 
-kept-bit-requires-2 : tie.Need-kept-bit-requires-2
-kept-bit-requires-2 c κs = search needs
+bit-if-requires-2 : tie.Need-bit-if-requires-2
+bit-if-requires-2 c κs = search needs
 
-kept-bit-requires-3 : tie.Need-kept-bit-requires-3
-kept-bit-requires-3 c κs = search needs
+bit-if-requires-3 : tie.Need-bit-if-requires-3
+bit-if-requires-3 c κs = search needs
 
 mul-result : tie.Need-mul-result
 mul-result c = omega (arith, small c)
@@ -42,9 +42,9 @@ pub kept-labels-spec : {M : Type 1} → statement M
 kept-labels-spec =
     tie.close
     (tie.spec
-    kept-bit-requires
-    kept-bit-requires-2
-    kept-bit-requires-3
+    bit-if-requires
+    bit-if-requires-2
+    bit-if-requires-3
     mul-result
     add-result
     mul-result-2

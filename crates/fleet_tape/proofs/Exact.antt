@@ -1,0 +1,147 @@
+-- The theorems about the reader: it takes exactly the fleet tapes with at most 64 rows and gives back what they state; a fleet tape with more rows it refuses by 2, and any other bytes by 11.
+use Prim.Native.Nat.{ℕ, _≤_, _<_}
+use mathlib.Core.Path.{_≡_, refl, sym, ap, _∙_, subst}
+use mathlib.Core.Logic.{_↔_}
+use mathlib.Core.Bool.{Bool, true, false, cond}
+use mathlib.Core.List.{List, [], _∷_, _++_, map}
+use mathlib.Core.Option.{Option, none, some}
+use native.Mathlib.Omega.{arith}
+use borrow.Author.Tests.{le-leb, lt-leb, leb-true, eq-eqb}
+use lib.Dec.{leb}
+use lib.ListN.{length, take, drop, length-map}
+use lib.Seq.{take-at}
+use Rattle.window.specs.declared.Kind.{Kind}
+use Rattle.table.specs.declared.Refusal.the-variants.{Accepted, Lists, Rows, Form}
+use Rattle.table.specs.Refusals.{numberOf}
+use Rattle.fleet_tape.specs.Fleet.{Row, fleetTape, Fits, rowsOfLists, firstRows}
+use Rattle.fleet_tape.specs.Form.{Fleet, hoursIn, fleetOf}
+use Rattle.fleet_tape.specs.Scan.{startsOf, endsOf, marksOf, Places}
+use Rattle.fleet_tape.specs.Reading.{Reading, reading, refused, filled, taken, judged, hasPlaces, fleetRead}
+use Rattle.fleet_tape.proofs.Parsed.{Bytes, fleet, fleet-back, FleetStands, FleetRead, fleet-read}
+
+-- ---- a tape of the form
+
+-- what the reader gives of a tape with so many rows
+abbrev pub given : Kind → ℕ → List (List ℕ) → List Row → List ℕ → List ℕ → List ℕ → Reading
+given kind R hours rows starts ends marks =
+    reading (record { refusal = Accepted; kind = kind; ticks = R; hours = hoursIn kind hours; rows = length rows })
+    (filled (startsOf rows) starts)
+    (filled (endsOf rows) ends)
+    (filled (marksOf rows) marks)
+
+module _ {starts ends marks : List ℕ} (p : Places starts ends marks) where
+  placed : (tape : List ℕ) (o : Option Fleet) → fleetOf tape ≡ o → fleetRead tape starts ends marks ≡ judged o starts ends marks
+  unfolding fleetRead
+  placed tape o e = rw (eq-eqb _ _ (p .starts-64), eq-eqb _ _ (p .ends-64), eq-eqb _ _ (p .marks-64), e)
+
+  module _ (kind : Kind) (R : ℕ) (hours : List (List ℕ)) (rows : List Row) (f : Fits R hours rows) where
+    -- A fleet tape with at most 64 rows is accepted, and what it states is given back.
+    pub gives-back : length rows ≤ 64 → fleetRead (fleetTape kind R hours rows) starts ends marks ≡ given kind R hours rows starts ends marks
+    unfolding judged taken
+    gives-back h = placed (fleetTape kind R hours rows) _ (fleet-back kind R hours rows f) ∙ rw (le-leb (length rows) 64 h)
+
+    -- A fleet tape with more than 64 rows is refused by 2.
+    pub too-many : 64 < length rows → fleetRead (fleetTape kind R hours rows) starts ends marks ≡ reading (refused Rows) starts ends marks
+    unfolding judged taken
+    too-many h = placed (fleetTape kind R hours rows) _ (fleet-back kind R hours rows f) ∙ rw (lt-leb (length rows) 64 h)
+
+  -- Bytes that are no fleet tape are refused by 11.
+  pub not-of-form : (tape : List ℕ) → Bytes tape
+      → ((kind : Kind) (R : ℕ) (hours : List (List ℕ)) (rows : List Row) → Fits R hours rows → tape ≡ fleetTape kind R hours rows → ⊥)
+      → fleetRead tape starts ends marks ≡ reading (refused Form) starts ends marks
+  unfolding judged
+  not-of-form tape b n = go (fleetOf tape) (fleet-read tape b) refl
+    where
+      go : (o : Option Fleet) → FleetRead tape o → fleetOf tape ≡ o → fleetRead tape starts ends marks ≡ reading (refused Form) starts ends marks
+      go none r e = placed tape none e
+      go (some f) r e = absurd (n (f .kind) (f .ticks) (f .hours) (f .rows) (r .fit) (r .bytes))
+
+-- ---- an accepted tape
+
+rows-again : (rows : List Row) → rowsOfLists (startsOf rows) (endsOf rows) (marksOf rows) ≡ rows
+rows-again [] = refl
+rows-again (row ∷ rows) = ap (λ (r : List Row). row ∷ r) (rows-again rows)
+
+taken-front : (f : Row → ℕ) (rows : List Row) (before : List ℕ) → take (length rows) (filled (map f rows) before) ≡ map f rows
+taken-front f rows before = take-at (map f rows) (drop (length (map f rows)) before) (length rows) (length-map rows f)
+
+first-rows : (rows : List Row) (starts ends marks : List ℕ)
+    → firstRows (length rows) (filled (startsOf rows) starts) (filled (endsOf rows) ends) (filled (marksOf rows) marks) ≡ rows
+first-rows rows starts ends marks =
+    rw (taken-front (λ row. row .start) rows starts, taken-front (λ row. row .end) rows ends, taken-front (λ row. row .mark) rows marks) (rows-again rows)
+
+-- the rows that a call reports and has filled in
+abbrev pub rowsGiven : Reading → List Row
+rowsGiven out = firstRows (out .report .rows) (out .starts) (out .ends) (out .marks)
+
+-- The tape is the fleet tape of what was reported and filled in.
+pub record Stated (tape : List ℕ) (out : Reading) : Type 0 where
+  pub tape-is : tape ≡ fleetTape (out .report .kind) (out .report .ticks) (out .report .hours) (rowsGiven out)
+  pub fits : Fits (out .report .ticks) (out .report .hours) (rowsGiven out)
+  pub counted : length (rowsGiven out) ≡ out .report .rows
+  pub few : out .report .rows ≤ 64
+
+-- what is known of the answer once it is an acceptance
+abbrev IfAccepted : List ℕ → Reading → Type 0
+IfAccepted tape out = out .report .refusal ≡ Accepted → Stated tape out
+
+module _ (tape starts ends marks : List ℕ) (b : Bytes tape) where
+  taken-stated : (f : Fleet) → FleetStands tape f → length (f .rows) ≤ 64 → Stated tape (taken f starts ends marks)
+  unfolding taken
+  taken-stated f r h =
+      let e = first-rows (f .rows) starts ends marks in
+      record {
+        tape-is = rw e (r .bytes);
+        fits = rw e (r .fit);
+        counted = ap length e;
+        few = h;
+      }
+
+  few-stated : (f : Fleet) → FleetStands tape f → (t : Bool) → leb (length (f .rows)) 64 ≡ t → IfAccepted tape (cond t (taken f starts ends marks) (reading (refused Rows) starts ends marks))
+  few-stated f r true e a = taken-stated f r (leb-true (length (f .rows)) 64 e)
+  few-stated f r false e a = let z : _≡_ {A = ℕ} 2 0 = ap numberOf a in absurd (omega arith)
+
+  judged-stated : (o : Option Fleet) → FleetRead tape o → IfAccepted tape (judged o starts ends marks)
+  unfolding judged
+  judged-stated none r a = let z : _≡_ {A = ℕ} 11 0 = ap numberOf a in absurd (omega arith)
+  judged-stated (some f) r a = few-stated f r (leb (length (f .rows)) 64) refl a
+
+  placed-stated : (t : Bool) → IfAccepted tape (cond t (judged (fleetOf tape) starts ends marks) (reading (refused Lists) starts ends marks))
+  placed-stated true a = judged-stated (fleetOf tape) (fleet-read tape b) a
+  placed-stated false a = let z : _≡_ {A = ℕ} 1 0 = ap numberOf a in absurd (omega arith)
+
+  -- A tape that is accepted is the fleet tape of what was reported and filled in.
+  pub accepted-only : fleetRead tape starts ends marks .report .refusal ≡ Accepted → Stated tape (fleetRead tape starts ends marks)
+  unfolding fleetRead
+  accepted-only = placed-stated (hasPlaces (length starts) (length ends) (length marks))
+
+-- ---- both ways
+
+-- a fleet tape with at most 64 rows
+pub record FleetTape (tape : List ℕ) : Type 0 where
+  pub kind : Kind
+  pub ticks : ℕ
+  pub hours : List (List ℕ)
+  pub rows : List Row
+  pub fits : Fits ticks hours rows
+  pub few : length rows ≤ 64
+  pub tape-is : tape ≡ fleetTape kind ticks hours rows
+
+-- "The reader takes just the fleet tapes of document 01's form with up to 64 rows, into lists of 64."
+pub accepts-iff : (tape : List ℕ) {starts ends marks : List ℕ} → Bytes tape → Places starts ends marks
+    → (fleetRead tape starts ends marks .report .refusal ≡ Accepted) ↔ FleetTape tape
+accepts-iff tape {starts} {ends} {marks} b p = (
+  λ a.
+      let out = fleetRead tape starts ends marks in
+      let s = accepted-only tape starts ends marks b a in
+      record {
+        kind = out .report .kind;
+        ticks = out .report .ticks;
+        hours = out .report .hours;
+        rows = rowsGiven out;
+        fits = s .fits;
+        few = omega (arith, s .counted, s .few);
+        tape-is = s .tape-is;
+      },
+  λ t. ap (λ (l : List ℕ). fleetRead l starts ends marks .report .refusal) (t .tape-is) ∙ ap (λ (r : Reading). r .report .refusal) (gives-back p (t .kind) (t .ticks) (t .hours) (t .rows) (t .fits) (t .few)),
+)

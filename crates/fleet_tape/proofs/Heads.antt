@@ -1,0 +1,41 @@
+-- A command at a place of a tape: what it says that one begins there, and the operands that follow.
+use Prim.Native.Nat.{ℕ, _+_, _≤_, _<_}
+use mathlib.Core.Path.{_≡_, refl, sym, ap₂, _∙_}
+use mathlib.Core.Logic.{_↔_}
+use mathlib.Core.Bool.{true, false}
+use mathlib.Core.List.{List}
+use native.Mathlib.Nat.{add-zero, add-assoc}
+use native.Mathlib.Omega.{arith}
+use borrow.Author.Tests.{lt-ltb, le-ltb}
+use lib.Dec.{eqb}
+use lib.ListN.{length, getD, drop, length-drop}
+use lib.Seq.{getD-drop}
+use Rattle.labels.proofs.Tests.{and-iff, ltb-iff, eqb-iff}
+use Rattle.tape.specs.Commands.{operandBytes}
+use Rattle.tape.specs.Words.{joined}
+use Rattle.fleet_tape.specs.Form.{begins, wordAt, hoursOf}
+
+pub begins-iff : (c : ℕ) (s : List ℕ) → (begins c s ≡ true) ↔ ((operandBytes c < length s) × (getD s 0 0 ≡ c))
+unfolding begins
+begins-iff c s = and-iff (ltb-iff (operandBytes c) (length s)) (eqb-iff (getD s 0 0) c)
+
+module _ (s : List ℕ) (at : ℕ) where
+  pub first-at : getD (drop at s) 0 0 ≡ getD s at 0
+  first-at = rw (getD-drop, add-zero)
+
+  pub word-at : (i : ℕ) → wordAt s (at + i) ≡ wordAt (drop at s) i
+  word-at i = simp (getD-drop, add-assoc)
+
+  module _ (c : ℕ) where
+    pub fits-at : at + operandBytes c < length s → begins c (drop at s) ≡ eqb (getD s at 0) c
+    unfolding begins
+    fits-at h = rw (lt-ltb (operandBytes c) (length (drop at s)) (omega (arith, length-drop at s)), first-at)
+
+    pub short-at : length s ≤ at + operandBytes c → begins c (drop at s) ≡ false
+    unfolding begins
+    short-at h = rw (le-ltb (operandBytes c) (length (drop at s)) (omega (arith, length-drop at s)))
+
+    pub begins-at : begins c (drop at s) ≡ true → (at + operandBytes c < length s) × (getD s at 0 ≡ c)
+    begins-at e =
+        let b = begins-iff c (drop at s) .0 e in
+        (omega (arith, length-drop at s, b .0), sym first-at ∙ b .1)

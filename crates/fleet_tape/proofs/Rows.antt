@@ -1,0 +1,177 @@
+-- The rows of a tape, one after the other: a row that stands first, and what is left at the end.
+use Prim.Native.Nat.{ℕ, suc, _+_, _≤_, _<_}
+use mathlib.Core.Path.{_≡_, refl, sym, ap, _∙_}
+use mathlib.Core.Logic.{⊎-elim}
+use mathlib.Core.Bool.{Bool, true, false, and-true}
+use mathlib.Core.List.{List, [], _∷_, _++_, map}
+use mathlib.Core.Option.{Option, none, some}
+use native.Mathlib.Nat.{zero-add}
+use native.Mathlib.Numerals.{add-one}
+use native.Mathlib.Omega.{arith}
+use borrow.Author.Tests.{lt-ltb, eq-eqb}
+use lib.Dec.{eqb}
+use lib.ListN.{length, getD, drop, set, length-drop, length-map}
+use lib.Seq.{drop-drop, sets, sets-eq}
+use Rattle.labels.proofs.Tests.{and-iff, or-iff, eqb-iff}
+use Rattle.tape.specs.Commands.{WINDOW, MUST, STOP, operandBytes}
+use Rattle.fleet_tape.specs.declared.Scanned.{Scanned}
+use Rattle.fleet_tape.specs.declared.Scanned.the-variants.{Count, Broken}
+use Rattle.fleet_tape.specs.Fleet.{Row}
+use Rattle.fleet_tape.specs.Form.{begins, wordAt, isRow, markOf, put, rowsOf}
+use Rattle.fleet_tape.specs.Scan.{rowFirst, stopLast, counted, listed}
+use Rattle.fleet_tape.specs.Reading.{filled}
+use Rattle.fleet_tape.proofs.Heads.{begins-iff, first-at, word-at}
+
+-- a row stands first: its command and its operands are there
+record RowFirst (s : List ℕ) : Type 0 where
+  command : isRow (getD s 0 0) ≡ true
+  width : operandBytes (getD s 0 0) ≡ 4
+  whole : 4 < length s
+
+row-first : (s : List ℕ) → rowFirst s ≡ true → RowFirst s
+unfolding operandBytes
+row-first s e =
+    ⊎-elim (λ b. record { command = rw (b .1); width = rw (b .1); whole = b .0 }) (λ b. record { command = rw (b .1); width = rw (b .1); whole = b .0 })
+    (or-iff (begins-iff WINDOW s) (begins-iff MUST s) .0 e)
+
+-- the row of the first five bytes
+abbrev firstRow : List ℕ → Row
+firstRow s = record { start = wordAt s 1; end = wordAt s 3; mark = markOf (getD s 0 0) }
+
+rows-more : (s : List ℕ) → RowFirst s → rowsOf s ≡ put (firstRow s) (rowsOf (drop 5 s))
+unfolding rowsOf
+rows-more [] f = absurd (omega arith)
+rows-more (x ∷ []) f = absurd (omega arith)
+rows-more (x ∷ a ∷ []) f = absurd (omega arith)
+rows-more (x ∷ a ∷ b ∷ []) f = absurd (omega arith)
+rows-more (x ∷ a ∷ b ∷ c ∷ []) f = absurd (omega arith)
+rows-more (x ∷ a ∷ b ∷ c ∷ d ∷ rest) f = rw (f .command)
+
+rows-stop : (s : List ℕ) → stopLast s ≡ true → rowsOf s ≡ some []
+unfolding rowsOf
+rows-stop s e = go s (and-iff (begins-iff STOP s) (eqb-iff (length s) 1) .0 e)
+  where
+    go : (t : List ℕ) → ((operandBytes STOP < length t) × (getD t 0 0 ≡ STOP)) × (length t ≡ 1) → rowsOf t ≡ some []
+    go [] h = absurd (omega arith)
+    go (x ∷ []) h = rw (eq-eqb x STOP (h .0 .1))
+    go (x ∷ a ∷ []) h = absurd (omega arith)
+    go (x ∷ a ∷ b ∷ []) h = absurd (omega arith)
+    go (x ∷ a ∷ b ∷ c ∷ []) h = absurd (omega arith)
+    go (x ∷ a ∷ b ∷ c ∷ d ∷ rest) h = absurd (omega arith)
+
+rows-none : (s : List ℕ) → rowFirst s ≡ false → stopLast s ≡ false → rowsOf s ≡ none
+unfolding rowsOf begins operandBytes
+rows-none [] f e = refl
+rows-none (x ∷ []) f e = rw (sym (and-true (eqb x STOP)) ∙ e)
+rows-none (x ∷ a ∷ []) f e = refl
+rows-none (x ∷ a ∷ b ∷ []) f e = refl
+rows-none (x ∷ a ∷ b ∷ c ∷ []) f e = refl
+rows-none (x ∷ a ∷ b ∷ c ∷ d ∷ rest) f e = rw (rw (lt-ltb 4 (length (x ∷ a ∷ b ∷ c ∷ d ∷ rest)) (omega arith)) at f)
+
+-- ---- at a place of the tape
+
+-- the row at a place
+abbrev pub rowAt : List ℕ → ℕ → Row
+rowAt s at = record { start = wordAt s (at + 1); end = wordAt s (at + 3); mark = markOf (getD s at 0) }
+
+-- A row stands at a place: how long it is, and what follows.
+pub record RowAt (s : List ℕ) (at : ℕ) : Type 0 where
+  pub width : operandBytes (getD s at 0) ≡ 4
+  pub whole : at + 4 < length s
+  pub more-rows : rowsOf (drop at s) ≡ put (rowAt s at) (rowsOf (drop (at + 5) s))
+
+pub row-at : (s : List ℕ) (at : ℕ) → rowFirst (drop at s) ≡ true → RowAt s at
+row-at s at e =
+    let f = row-first (drop at s) e in
+    record {
+      width = rw (first-at s at) at (f .width);
+      whole = omega (arith, length-drop at s, f .whole);
+      more-rows = rows-more (drop at s) f ∙ simp (word-at s at 1, word-at s at 3, first-at s at, drop-drop 5 at s);
+    }
+
+-- ---- counting
+
+-- n rows more
+abbrev pub more : ℕ → Scanned → Scanned
+more n (Count k) = Count (n + k)
+more n Broken = Broken
+
+counted-put : (row : Row) (o : Option (List Row)) → counted (put row o) ≡ more 1 (counted o)
+counted-put row none = refl
+counted-put row (some rows) = ap Count (omega arith)
+
+more-more : (n : ℕ) (x : Scanned) → more n (more 1 x) ≡ more (n + 1) x
+more-more n (Count k) = ap Count (omega arith)
+more-more n Broken = refl
+
+pub count-none : (x : Scanned) → x ≡ more 0 x
+count-none (Count k) = ap Count (omega arith)
+count-none Broken = refl
+
+pub count-more : (s : List ℕ) (at n : ℕ) → RowAt s at → more n (counted (rowsOf (drop at s))) ≡ more (n + 1) (counted (rowsOf (drop (at + 5) s)))
+count-more s at n r = rw (r .more-rows, counted-put) (more-more n (counted (rowsOf (drop (at + 5) s))))
+
+-- what is left where no row stands: STOP as the last byte, or a tape that is not of the form
+pub count-stop : (s : List ℕ) (n : ℕ) → stopLast s ≡ true → more n (counted (rowsOf s)) ≡ Count n
+count-stop s n e = rw (rows-stop s e) (ap Count (omega arith))
+
+pub count-broken : (s : List ℕ) (n : ℕ) → rowFirst s ≡ false → stopLast s ≡ false → more n (counted (rowsOf s)) ≡ Broken
+count-broken s n f e = rw (rows-none s f e) refl
+
+-- ---- filling
+
+abbrev number : Scanned → ℕ
+number (Count k) = k
+number Broken = 0
+
+-- A row stands at a place, and so many rows after it.
+pub record Next (s : List ℕ) (at left : ℕ) : Type 0 where
+  pub row : RowAt s at
+  pub rest : counted (rowsOf (drop (at + 5) s)) ≡ Count left
+  pub rows : listed (rowsOf (drop at s)) ≡ rowAt s at ∷ listed (rowsOf (drop (at + 5) s))
+
+not-last : (s : List ℕ) (left : ℕ) → counted (rowsOf s) ≡ Count (suc left) → rowFirst s ≡ true
+not-last s left e = first (rowFirst s) refl
+  where
+    last : (b : Bool) → rowFirst s ≡ false → stopLast s ≡ b → rowFirst s ≡ true
+    last true f q = let z : 0 ≡ suc left = ap number (sym (ap counted (rows-stop s q)) ∙ e) in absurd (omega arith)
+    last false f q = let z : 0 ≡ suc left = ap number (sym (ap counted (rows-none s f q)) ∙ e) in absurd (omega arith)
+
+    first : (b : Bool) → rowFirst s ≡ b → rowFirst s ≡ true
+    first true q = q
+    first false q = last (stopLast s) q refl
+
+one-less : (row : Row) (o : Option (List Row)) (left : ℕ) → counted (put row o) ≡ Count (suc left) → (counted o ≡ Count left) × (listed (put row o) ≡ row ∷ listed o)
+one-less row none left e = let z : 0 ≡ suc left = ap number e in absurd (omega arith)
+one-less row (some rows) left e = let z : suc (length rows) ≡ suc left = ap number e in (ap Count (omega arith), refl)
+
+pub next-row : (s : List ℕ) (at left : ℕ) → counted (rowsOf (drop at s)) ≡ Count (suc left) → Next s at left
+next-row s at left e =
+    let r = row-at s at (not-last (drop at s) left e) in
+    let l = one-less (rowAt s at) (rowsOf (drop (at + 5) s)) left (rw (r .more-rows) at e) in
+    record { row = r; rest = l .0; rows = ap listed (r .more-rows) ∙ l .1 }
+
+pub none-left : (o : Option (List Row)) → counted o ≡ Count 0 → listed o ≡ []
+none-left none e = refl
+none-left (some []) e = refl
+none-left (some (row ∷ rows)) e = let z : suc (length rows) ≡ 0 = ap number e in absurd (omega arith)
+
+pub length-listed : (o : Option (List Row)) (n : ℕ) → counted o ≡ Count n → length (listed o) ≡ n
+length-listed o n e = same o ∙ ap number e
+  where
+    same : (o : Option (List Row)) → length (listed o) ≡ number (counted o)
+    same none = refl
+    same (some rows) = refl
+
+-- one place a row, from place i on
+pub fill-more : (f : Row → ℕ) {s : List ℕ} {at left : ℕ} → Next s at left → (l : List ℕ) (i : ℕ)
+    → sets l i (map f (listed (rowsOf (drop at s)))) ≡ sets (set l i (f (rowAt s at))) (i + 1) (map f (listed (rowsOf (drop (at + 5) s))))
+fill-more f n l i = rw (n .rows, add-one i) refl
+
+pub fill-done : (f : Row → ℕ) (o : Option (List Row)) (l : List ℕ) (i : ℕ) → counted o ≡ Count 0 → sets l i (map f (listed o)) ≡ l
+fill-done f o l i e = rw (none-left o e) refl
+
+pub fill-all : (f : Row → ℕ) (o : Option (List Row)) (n : ℕ) (l : List ℕ) → counted o ≡ Count n → n ≤ length l → sets l 0 (map f (listed o)) ≡ filled (map f (listed o)) l
+fill-all f o n l e h =
+    sets-eq (map f (listed o)) l 0 (omega (arith, length-map (listed o) f, length-listed o n e))
+    ∙ ap (λ (k : ℕ). map f (listed o) ++ drop k l) (zero-add (length (map f (listed o))))

@@ -1,0 +1,63 @@
+-- Two fleet tapes written out: the one of paper 01's session, and one of a run with a must window (P10 of the bench table).
+use Prim.Native.Nat.{ℕ}
+use mathlib.Core.Path.{_≡_, refl}
+use mathlib.Core.List.{List, [], _∷_, _++_}
+use lib.ListN.{replicate}
+use Rattle.window.specs.declared.Kind.the-variants.{Round, Run}
+use Rattle.table.specs.declared.Refusal.the-variants.{Accepted}
+use Rattle.fleet_tape.specs.Fleet.{Row, fleetTape}
+use Rattle.fleet_tape.specs.Form.{noHours}
+use Rattle.fleet_tape.specs.Reading.{reading, fleetRead}
+
+abbrev row : ℕ → ℕ → ℕ → Row
+row s e m = record { start = s; end = e; mark = m }
+
+-- "Input: `10 00 64 40 00 0A 00 1E 40 00 14 00 28 40 00 19 00 32 40 00 5A 00 0A 7F`"
+abbrev session : List ℕ
+session =
+    0x10 ∷ 0x00 ∷ 0x64
+    ∷ 0x40 ∷ 0x00 ∷ 0x0A ∷ 0x00 ∷ 0x1E
+    ∷ 0x40 ∷ 0x00 ∷ 0x14 ∷ 0x00 ∷ 0x28
+    ∷ 0x40 ∷ 0x00 ∷ 0x19 ∷ 0x00 ∷ 0x32
+    ∷ 0x40 ∷ 0x00 ∷ 0x5A ∷ 0x00 ∷ 0x0A
+    ∷ 0x7F ∷ []
+
+pub session-tape : fleetTape Round 100 noHours (row 10 30 0 ∷ row 20 40 0 ∷ row 25 50 0 ∷ row 90 10 0 ∷ []) ≡ session
+unfolding fleetTape
+session-tape = refl
+
+-- lists of 64 places that hold 7
+abbrev before : List ℕ
+before = replicate 64 7
+
+pub session-read : fleetRead session before before before
+    ≡ reading (record { refusal = Accepted; kind = Round; ticks = 100; hours = noHours; rows = 4 })
+    ((10 ∷ 20 ∷ 25 ∷ 90 ∷ []) ++ replicate 60 7)
+    ((30 ∷ 40 ∷ 50 ∷ 10 ∷ []) ++ replicate 60 7)
+    ((0 ∷ 0 ∷ 0 ∷ 0 ∷ []) ++ replicate 60 7)
+unfolding fleetRead
+session-read = refl
+
+abbrev run : List ℕ
+run =
+    0x11 ∷ 0x00 ∷ 0x64
+    ∷ 0x50 ∷ 0x00 ∷ 0x00 ∷ 0x00 ∷ 0x32 ∷ 0x00 ∷ 0x28 ∷ 0x00 ∷ 0x64
+    ∷ 0x40 ∷ 0x00 ∷ 0x2D ∷ 0x00 ∷ 0x3C
+    ∷ 0x41 ∷ 0x00 ∷ 0x32 ∷ 0x00 ∷ 0x3C
+    ∷ 0x40 ∷ 0x00 ∷ 0x00 ∷ 0x00 ∷ 0x32
+    ∷ 0x7F ∷ []
+
+abbrev hours : List (List ℕ)
+hours = (0 ∷ 50 ∷ []) ∷ (40 ∷ 100 ∷ []) ∷ []
+
+pub run-tape : fleetTape Run 100 hours (row 45 60 0 ∷ row 50 60 1 ∷ row 0 50 0 ∷ []) ≡ run
+unfolding fleetTape
+run-tape = refl
+
+pub run-read : fleetRead run before before before
+    ≡ reading (record { refusal = Accepted; kind = Run; ticks = 100; hours = hours; rows = 3 })
+    ((45 ∷ 50 ∷ 0 ∷ []) ++ replicate 61 7)
+    ((60 ∷ 60 ∷ 50 ∷ []) ++ replicate 61 7)
+    ((0 ∷ 1 ∷ 0 ∷ []) ++ replicate 61 7)
+unfolding fleetRead
+run-read = refl

@@ -1,0 +1,83 @@
+-- The form of a fleet tape, read from its bytes: what a tape of the form states, and nothing of any other bytes.
+use Prim.Native.Nat.{ℕ, _+_}
+use mathlib.Core.Bool.{Bool, cond, _&&_, _||_}
+use mathlib.Core.List.{List, [], _∷_}
+use mathlib.Core.Option.{Option, none, some}
+use lib.Dec.{ltb, eqb}
+use lib.ListN.{length, getD, drop}
+use Rattle.window.specs.declared.Kind.{Kind}
+use Rattle.window.specs.declared.Kind.the-variants.{Round, Run}
+use Rattle.tape.specs.Commands.{ROUND, RUN, WINDOW, MUST, HOURS, STOP, operandBytes}
+use Rattle.tape.specs.Words.{joined}
+use Rattle.fleet_tape.specs.Fleet.{Row}
+
+-- ---- rows
+
+-- a row's command
+abbrev pub isRow : ℕ → Bool
+isRow command = eqb command WINDOW || eqb command MUST
+
+-- "WINDOW gives mark 0, MUST 1"
+abbrev pub markOf : ℕ → ℕ
+markOf command = cond (eqb command MUST) 1 0
+
+abbrev pub put : Row → Option (List Row) → Option (List Row)
+put row none = none
+put row (some rows) = some (row ∷ rows)
+
+-- "WINDOW and MUST in row order; STOP as the last byte": a row is a command and four bytes, and what is left at the end is STOP alone
+unfoldable pub rowsOf : List ℕ → Option (List Row)
+rowsOf [] = none
+rowsOf (command ∷ []) = cond (eqb command STOP) (some []) none
+rowsOf (command ∷ a ∷ []) = none
+rowsOf (command ∷ a ∷ b ∷ []) = none
+rowsOf (command ∷ a ∷ b ∷ c ∷ []) = none
+rowsOf (command ∷ a ∷ b ∷ c ∷ d ∷ rest) =
+    cond (isRow command) (put (record { start = joined a b; end = joined c d; mark = markOf command }) (rowsOf rest)) none
+
+-- ---- the whole tape
+
+-- what a fleet tape states
+pub record Fleet : Type 0 where
+  pub kind : Kind
+  pub ticks : ℕ
+  pub hours : List (List ℕ)
+  pub rows : List Row
+
+abbrev pub stated : Kind → ℕ → List (List ℕ) → Option (List Row) → Option Fleet
+stated kind R hours none = none
+stated kind R hours (some rows) = some (record { kind = kind; ticks = R; hours = hours; rows = rows })
+
+-- the command stands first, and all bytes of its operands follow
+unfoldable pub begins : ℕ → List ℕ → Bool
+unfolding operandBytes
+begins command s = ltb (operandBytes command) (length s) && eqb (getD s 0 0) command
+
+-- what follows a command with its operands
+abbrev pub after : ℕ → List ℕ → List ℕ
+after command s = drop (1 + operandBytes command) s
+
+-- the 16-bit operand at place i, "the high byte first"
+abbrev pub wordAt : List ℕ → ℕ → ℕ
+wordAt s i = joined (getD s i 0) (getD s (i + 1) 0)
+
+-- "HOURS: p1, q1, p2, q2 (16 each)"
+abbrev pub hoursOf : List ℕ → List (List ℕ)
+hoursOf s = (wordAt s 1 ∷ wordAt s 3 ∷ []) ∷ (wordAt s 5 ∷ wordAt s 7 ∷ []) ∷ []
+
+abbrev pub noHours : List (List ℕ)
+noHours = (0 ∷ 0 ∷ []) ∷ (0 ∷ 0 ∷ []) ∷ []
+
+-- "hours (all 0 in a round)"
+abbrev pub hoursIn : Kind → List (List ℕ) → List (List ℕ)
+hoursIn Round hours = noHours
+hoursIn Run hours = hours
+
+-- "ROUND, or RUN and then HOURS", and then the rows
+unfoldable pub fleetOf : List ℕ → Option Fleet
+unfolding rowsOf begins operandBytes
+fleetOf s =
+    cond (begins ROUND s) (stated Round (wordAt s 1) noHours (rowsOf (after ROUND s)))
+    (cond (begins RUN s && begins HOURS (after RUN s))
+    (stated Run (wordAt s 1) (hoursOf (after RUN s)) (rowsOf (after HOURS (after RUN s))))
+    none)

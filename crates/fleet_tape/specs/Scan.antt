@@ -1,0 +1,51 @@
+-- The scan of a tape's rows and the filling of the lists: what the reader's inner functions promise.
+use Prim.Native.Nat.{ℕ, _≤_}
+use mathlib.Core.Path.{_≡_}
+use mathlib.Core.Bool.{Bool, _&&_, _||_}
+use mathlib.Core.List.{List, [], map}
+use mathlib.Core.Option.{Option, none, some}
+use lib.Dec.{eqb}
+use lib.ListN.{length, drop}
+use Rattle.tape.specs.Commands.{WINDOW, MUST, STOP}
+use Rattle.fleet_tape.specs.declared.Scanned.{Scanned}
+use Rattle.fleet_tape.specs.declared.Scanned.the-variants.{Count, Broken}
+use Rattle.fleet_tape.specs.Fleet.{Row}
+use Rattle.fleet_tape.specs.Form.{begins, rowsOf}
+
+-- a row stands first
+abbrev pub rowFirst : List ℕ → Bool
+rowFirst s = begins WINDOW s || begins MUST s
+
+-- STOP is all that is left
+abbrev pub stopLast : List ℕ → Bool
+stopLast s = begins STOP s && eqb (length s) 1
+
+-- how many rows were read, if the form was right to the end
+abbrev pub counted : Option (List Row) → Scanned
+counted none = Broken
+counted (some rows) = Count (length rows)
+
+abbrev pub listed : Option (List Row) → List Row
+listed none = []
+listed (some rows) = rows
+
+abbrev pub startsOf : List Row → List ℕ
+startsOf rows = map (λ row. row .start) rows
+
+abbrev pub endsOf : List Row → List ℕ
+endsOf rows = map (λ row. row .end) rows
+
+abbrev pub marksOf : List Row → List ℕ
+marksOf rows = map (λ row. row .mark) rows
+
+-- lists of 64 places
+pub record Places (starts ends marks : List ℕ) : Type 0 where
+  pub starts-64 : length starts ≡ 64
+  pub ends-64 : length ends ≡ 64
+  pub marks-64 : length marks ≡ 64
+
+-- so many rows stand at a place of the tape, and the lists have places for them
+pub record Fillable (tape : List ℕ) (from rows : ℕ) (starts ends marks : List ℕ) : Type 0 where
+  pub form : counted (rowsOf (drop from tape)) ≡ Count rows
+  pub few : rows ≤ 64
+  pub places : Places starts ends marks

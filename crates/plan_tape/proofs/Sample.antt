@@ -1,0 +1,52 @@
+-- Paper 01's session: its plan tape of 26 bytes, the buffer of 25 bytes, and labels of P2 with a 3 in them.
+use Prim.Native.Nat.{ℕ}
+use mathlib.Core.Path.{_≡_, refl}
+use mathlib.Core.List.{List, [], _∷_, _++_}
+use lib.ListN.{replicate}
+use Rattle.window.specs.declared.Kind.the-variants.{Round}
+use Rattle.table.specs.declared.Refusal.{Refusal}
+use Rattle.table.specs.declared.Refusal.the-variants.{Accepted, NotPlan, Buffer}
+use Rattle.table.specs.Tables.{Table, table}
+use Rattle.plan_tape.specs.PlanTapes.{planTape}
+use Rattle.plan_tape.specs.Written.{Written, written}
+
+abbrev starts : List ℕ
+starts = 10 ∷ 20 ∷ 25 ∷ 90 ∷ []
+
+abbrev ends : List ℕ
+ends = 30 ∷ 40 ∷ 50 ∷ 10 ∷ []
+
+abbrev labels : List ℕ
+labels = 1 ∷ 2 ∷ 0 ∷ 1 ∷ []
+
+abbrev P2 : Table
+P2 = table Round 100 ((0 ∷ 0 ∷ []) ∷ (0 ∷ 0 ∷ []) ∷ []) starts ends (replicate 4 0)
+
+abbrev tape : List ℕ
+tape =
+    0x10 ∷ 0x00 ∷ 0x64
+    ∷ 0x20 ∷ 0x01
+    ∷ 0x30 ∷ 0x00 ∷ 0x00 ∷ 0x0A ∷ 0x00 ∷ 0x1E
+    ∷ 0x30 ∷ 0x03 ∷ 0x00 ∷ 0x5A ∷ 0x00 ∷ 0x0A
+    ∷ 0x20 ∷ 0x02
+    ∷ 0x30 ∷ 0x01 ∷ 0x00 ∷ 0x14 ∷ 0x00 ∷ 0x28
+    ∷ 0x7F
+    ∷ []
+
+-- "Its plan tape, 26 bytes"
+pub sample : planTape Round 100 starts ends labels ≡ tape
+unfolding planTape
+sample = refl
+
+-- a call that finds nines in a buffer of so many bytes
+abbrev refused : Refusal → ℕ → Written
+refused r bytes = record { answer = record { refusal = r; count = 0 }; buffer = replicate bytes 9 }
+
+-- the tape in a buffer of 28 bytes and of 26; "A buffer of 25 gives 10"; "labels of P2 with a 3 in them (9)", before the buffer of 25 bytes gives 10
+pub session :
+    (written P2 labels (replicate 28 9) ≡ record { answer = record { refusal = Accepted; count = 26 }; buffer = tape ++ (9 ∷ 9 ∷ []) })
+    × (written P2 labels (replicate 26 9) ≡ record { answer = record { refusal = Accepted; count = 26 }; buffer = tape })
+    × (written P2 labels (replicate 25 9) ≡ refused Buffer 25)
+    × (written P2 (1 ∷ 2 ∷ 3 ∷ 1 ∷ []) (replicate 25 9) ≡ refused NotPlan 25)
+unfolding written
+session = (refl, refl, refl, refl)

@@ -1,0 +1,69 @@
+-- The right answer of a writer call, whole: refusal, count and what the tape buffer then holds, on every input.
+use Prim.Native.Nat.{ℕ, _+_, _*_, _≤_, _<_}
+use mathlib.Core.Path.{_≡_}
+use mathlib.Core.Logic.{_≢_, _↔_}
+use mathlib.Core.Bool.{Bool, true, false}
+use mathlib.Core.List.{List, _++_}
+use lib.Dec.{leb, eqb}
+use lib.ListN.{length, drop}
+use Rattle.labels.specs.Labels.{at, heard}
+use Rattle.table.specs.declared.Refusal.{Refusal}
+use Rattle.table.specs.declared.Refusal.the-variants.{Accepted, NotPlan, Buffer}
+use Rattle.table.specs.declared.Answer.{Answer}
+use Rattle.table.specs.Refusals.{numberOf, asked, _then_}
+use Rattle.table.specs.Tables.{Table, rows, Plan, isPlan}
+use Rattle.table.specs.Checks.{listsRefusal, tableLooked}
+use Rattle.plan_tape.specs.PlanTapes.{planTape}
+
+-- the plan tape of a table and labels
+unfoldable pub tapeOf : Table → List ℕ → List ℕ
+unfolding planTape
+tapeOf t labels = planTape (t .kind) (t .ticks) (t .starts) (t .ends) labels
+
+-- "Writer's order: 1, 2, 4, 5, rows for 6 and 7, 9, 10." "9: labels offered to the writer are not a plan." "10: plan tape buffer shorter than the tape."
+unfoldable pub writeRefusal : Table → List ℕ → ℕ → Refusal
+unfolding listsRefusal tableLooked isPlan tapeOf
+writeRefusal t labels buffer =
+    listsRefusal (rows t) (length (t .ends)) (length (t .marks)) (length labels)
+    then tableLooked t .refusal
+    then asked (isPlan t labels) NotPlan
+    then asked (leb (length (tapeOf t labels)) buffer) Buffer
+
+-- what a call gives: its answer, and what the tape buffer then holds
+pub record Written : Type 0 where
+  pub answer : Answer
+  pub buffer : List ℕ
+
+abbrev pub decide : Bool → Written → Written → Written
+decide true a b = a
+decide false a b = b
+
+-- The writer's answer for a table, labels and a tape buffer that held `before`. "The writer reports that length as its count and leaves the bytes after it untouched."
+-- "The first [refusal] that applies is reported, with count 0. Outputs .. are untouched."
+unfoldable pub written : Table → List ℕ → List ℕ → Written
+unfolding writeRefusal tapeOf
+written t labels before =
+    decide (eqb (numberOf (writeRefusal t labels (length before))) 0)
+    (record {
+      answer = record { refusal = Accepted; count = length (tapeOf t labels) };
+      buffer = tapeOf t labels ++ drop (length (tapeOf t labels)) before;
+    })
+    (record { answer = record { refusal = writeRefusal t labels (length before); count = 0 }; buffer = before })
+
+-- What demand 2 asks of a call whose checks before 9 pass.
+pub record Demand2 (t : Table) (labels before : List ℕ) (w : Written) : Type 0 where
+  -- "The writer accepts every such plan for which the tape buffer is long enough,
+  pub accepted : (w .answer .refusal ≡ Accepted) ↔ (Plan t labels × (8 + 6 * heard labels ≤ length before))
+  -- refuses all other labels,
+  pub refused : (w .answer .refusal ≡ NotPlan) ↔ (Plan t labels → ⊥)
+  -- [10: plan tape buffer shorter than the tape]
+  pub short : (w .answer .refusal ≡ Buffer) ↔ (Plan t labels × (length before < 8 + 6 * heard labels))
+  -- and its tape states exactly that plan": the buffer then begins with the tape, and the bytes after it are as they were
+  pub tape : w .answer .refusal ≡ Accepted → w .buffer ≡ tapeOf t labels ++ drop (8 + 6 * heard labels) before
+  -- "It is 8 + 6 × count bytes long. The writer reports that length as its count"
+  pub count : w .answer .refusal ≡ Accepted → w .answer .count ≡ 8 + 6 * heard labels
+
+-- two plans, of tables with as many or other rows: at every row number the same label and, where the row is heard, the same window; a row that a table does not have counts as label 0
+pub record SamePlan (starts ends labels starts′ ends′ labels′ : List ℕ) : Type 0 where
+  pub label : (i : ℕ) → at labels i ≡ at labels′ i
+  pub window : (i : ℕ) → at labels i ≢ 0 → (at starts i ≡ at starts′ i) × (at ends i ≡ at ends′ i)

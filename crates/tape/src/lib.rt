@@ -1,0 +1,184 @@
+// The commands of a tape with the widths of their operands, and 16-bit operands as two bytes.
+ghost use mathlib.Core.Path.{_≡_};
+ghost use Rattle.tape.specs.Commands.{operandBytes};
+ghost use Rattle.tape.specs.Words.{highByte, lowByte, joined};
+
+pub const ROUND: u8 = 0x10;
+
+pub const RUN: u8 = 0x11;
+
+pub const RECEIVER: u8 = 0x20;
+
+pub const LISTEN: u8 = 0x30;
+
+pub const WINDOW: u8 = 0x40;
+
+pub const MUST: u8 = 0x41;
+
+pub const HOURS: u8 = 0x50;
+
+pub const STOP: u8 = 0x7F;
+
+// The bytes of operands by command; 0 also for a byte that is no command.
+const OPERAND_BYTES: [u8; 128] = [
+    0,
+    0,
+    0,
+    0,
+    0,
+    0,
+    0,
+    0,
+    0,
+    0,
+    0,
+    0,
+    0,
+    0,
+    0,
+    0,
+    2, // 10 ROUND
+    2, // 11 RUN
+    0,
+    0,
+    0,
+    0,
+    0,
+    0,
+    0,
+    0,
+    0,
+    0,
+    0,
+    0,
+    0,
+    0,
+    1, // 20 RECEIVER
+    0,
+    0,
+    0,
+    0,
+    0,
+    0,
+    0,
+    0,
+    0,
+    0,
+    0,
+    0,
+    0,
+    0,
+    0,
+    5, // 30 LISTEN
+    0,
+    0,
+    0,
+    0,
+    0,
+    0,
+    0,
+    0,
+    0,
+    0,
+    0,
+    0,
+    0,
+    0,
+    0,
+    4, // 40 WINDOW
+    4, // 41 MUST
+    0,
+    0,
+    0,
+    0,
+    0,
+    0,
+    0,
+    0,
+    0,
+    0,
+    0,
+    0,
+    0,
+    0,
+    8, // 50 HOURS
+    0,
+    0,
+    0,
+    0,
+    0,
+    0,
+    0,
+    0,
+    0,
+    0,
+    0,
+    0,
+    0,
+    0,
+    0,
+    0,
+    0,
+    0,
+    0,
+    0,
+    0,
+    0,
+    0,
+    0,
+    0,
+    0,
+    0,
+    0,
+    0,
+    0,
+    0,
+    0,
+    0,
+    0,
+    0,
+    0,
+    0,
+    0,
+    0,
+    0,
+    0,
+    0,
+    0,
+    0,
+    0,
+    0,
+    0, // 7F STOP
+];
+
+// How many bytes of operands follow a command.
+pub fn operand_bytes(command: u8) -> usize
+    ensures { λ r. ⌜ r ≡ operandBytes command ⌝ }
+{
+    if 127 < command {
+        return 0;
+    }
+    let i = command as usize;
+    OPERAND_BYTES[i] as usize
+}
+
+// The first byte of a 16-bit operand.
+pub fn high_byte(n: u16) -> u8
+    ensures { λ r. ⌜ r ≡ highByte n ⌝ }
+{
+    (n / 256) as u8
+}
+
+// The second byte of a 16-bit operand.
+pub fn low_byte(n: u16) -> u8
+    ensures { λ r. ⌜ r ≡ lowByte n ⌝ }
+{
+    (n % 256) as u8
+}
+
+// The 16-bit operand of two bytes.
+pub fn join_bytes(high: u8, low: u8) -> u16
+    ensures { λ r. ⌜ r ≡ joined high low ⌝ }
+{
+    (high as u16) * 256 + (low as u16)
+}
