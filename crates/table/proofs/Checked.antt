@@ -27,14 +27,14 @@ use Rattle.table.specs.Planned.{spaceBytes, spaceRefusal, checked}
 abbrev pub Passed : Refusal → Type 0
 Passed r = numberOf r ≡ 0
 
-then-passed : (a b : Refusal) → Passed (a then b) → Passed a × Passed b
+pub then-passed : (a b : Refusal) → Passed (a then b) → Passed a × Passed b
 then-passed a b = go (eqb (numberOf a) 0) refl
   where
     go : (x : Bool) → eqb (numberOf a) 0 ≡ x → Passed (pick x b a) → Passed a × Passed b
     go true e p = (eqb-true (numberOf a) 0 e, p)
     go false e p = absurd (eqb-false (numberOf a) 0 e p)
 
-asked-passed : (x : Bool) (r : Refusal) → 1 ≤ numberOf r → Passed (asked x r) → x ≡ true
+pub asked-passed : (x : Bool) (r : Refusal) → 1 ≤ numberOf r → Passed (asked x r) → x ≡ true
 asked-passed true r h p = refl
 asked-passed false r h p = absurd (omega arith)
 
@@ -42,7 +42,7 @@ choose-passed : (x : Bool) (a b : Looked) → 1 ≤ numberOf (b .refusal) → Pa
 choose-passed true a b h p = (refl, p)
 choose-passed false a b h p = absurd (omega arith)
 
-lists-passed : (n e m l : ℕ) → Passed (listsRefusal n e m l) → ((e ≡ n) × (m ≡ n) × (l ≡ n)) × (n ≤ 64)
+pub lists-passed : (n e m l : ℕ) → Passed (listsRefusal n e m l) → ((e ≡ n) × (m ≡ n) × (l ≡ n)) × (n ≤ 64)
 unfolding listsRefusal
 lists-passed n e m l p =
     let f = then-passed (asked (eqb e n && eqb m n && eqb l n) Lists) (asked (leb n 64) Rows) p in
