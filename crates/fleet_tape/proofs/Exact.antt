@@ -1,9 +1,9 @@
 -- The theorems about the reader: it takes exactly the fleet tapes with at most 64 rows and gives back what they state; a fleet tape with more rows it refuses by 2, and any other bytes by 11.
 use Prim.Native.Nat.{ℕ, _≤_, _<_}
-use mathlib.Core.Path.{_≡_, refl, sym, ap, _∙_, subst}
+use mathlib.Core.Path.{_≡_, refl, ap, _∙_}
 use mathlib.Core.Logic.{_↔_}
 use mathlib.Core.Bool.{Bool, true, false, cond}
-use mathlib.Core.List.{List, [], _∷_, _++_, map}
+use mathlib.Core.List.{List, [], _∷_, map}
 use mathlib.Core.Option.{Option, none, some}
 use native.Mathlib.Omega.{arith}
 use borrow.Author.Tests.{le-leb, lt-leb, leb-true, eq-eqb}
@@ -13,21 +13,13 @@ use lib.Seq.{take-at}
 use Rattle.window.specs.declared.Kind.{Kind}
 use Rattle.table.specs.declared.Refusal.the-variants.{Accepted, Lists, Rows, Form}
 use Rattle.table.specs.Refusals.{numberOf}
-use Rattle.fleet_tape.specs.Fleet.{Row, fleetTape, Fits, rowsOfLists, firstRows}
-use Rattle.fleet_tape.specs.Form.{Fleet, hoursIn, fleetOf}
-use Rattle.fleet_tape.specs.Scan.{startsOf, endsOf, marksOf, Places}
+use Rattle.fleet_tape.specs.Fleet.{Row, fleetTape, Bytes, Fits, startsOf, endsOf, marksOf, rowsOfLists, firstRows}
+use Rattle.fleet_tape.specs.Form.{Fleet, fleet, hoursIn, fleetOf}
+use Rattle.fleet_tape.specs.Scan.{Places}
 use Rattle.fleet_tape.specs.Reading.{Reading, reading, refused, filled, taken, judged, hasPlaces, fleetRead}
-use Rattle.fleet_tape.proofs.Parsed.{Bytes, fleet, fleet-back, FleetStands, FleetRead, fleet-read}
+use Rattle.fleet_tape.proofs.Parsed.{fleet-back, FleetStands, FleetKnown, fleet-known}
 
 -- ---- a tape of the form
-
--- what the reader gives of a tape with so many rows
-abbrev pub given : Kind → ℕ → List (List ℕ) → List Row → List ℕ → List ℕ → List ℕ → Reading
-given kind R hours rows starts ends marks =
-    reading (record { refusal = Accepted; kind = kind; ticks = R; hours = hoursIn kind hours; rows = length rows })
-    (filled (startsOf rows) starts)
-    (filled (endsOf rows) ends)
-    (filled (marksOf rows) marks)
 
 module _ {starts ends marks : List ℕ} (p : Places starts ends marks) where
   placed : (tape : List ℕ) (o : Option Fleet) → fleetOf tape ≡ o → fleetRead tape starts ends marks ≡ judged o starts ends marks
@@ -36,7 +28,7 @@ module _ {starts ends marks : List ℕ} (p : Places starts ends marks) where
 
   module _ (kind : Kind) (R : ℕ) (hours : List (List ℕ)) (rows : List Row) (f : Fits R hours rows) where
     -- A fleet tape with at most 64 rows is accepted, and what it states is given back.
-    pub gives-back : length rows ≤ 64 → fleetRead (fleetTape kind R hours rows) starts ends marks ≡ given kind R hours rows starts ends marks
+    pub gives-back : length rows ≤ 64 → fleetRead (fleetTape kind R hours rows) starts ends marks ≡ taken (fleet kind R (hoursIn kind hours) rows) starts ends marks
     unfolding judged taken
     gives-back h = placed (fleetTape kind R hours rows) _ (fleet-back kind R hours rows f) ∙ rw (le-leb (length rows) 64 h)
 
@@ -50,9 +42,9 @@ module _ {starts ends marks : List ℕ} (p : Places starts ends marks) where
       → ((kind : Kind) (R : ℕ) (hours : List (List ℕ)) (rows : List Row) → Fits R hours rows → tape ≡ fleetTape kind R hours rows → ⊥)
       → fleetRead tape starts ends marks ≡ reading (refused Form) starts ends marks
   unfolding judged
-  not-of-form tape b n = go (fleetOf tape) (fleet-read tape b) refl
+  not-of-form tape b n = go (fleetOf tape) (fleet-known tape b) refl
     where
-      go : (o : Option Fleet) → FleetRead tape o → fleetOf tape ≡ o → fleetRead tape starts ends marks ≡ reading (refused Form) starts ends marks
+      go : (o : Option Fleet) → FleetKnown tape o → fleetOf tape ≡ o → fleetRead tape starts ends marks ≡ reading (refused Form) starts ends marks
       go none r e = placed tape none e
       go (some f) r e = absurd (n (f .kind) (f .ticks) (f .hours) (f .rows) (r .fit) (r .bytes))
 
@@ -101,13 +93,13 @@ module _ (tape starts ends marks : List ℕ) (b : Bytes tape) where
   few-stated f r true e a = taken-stated f r (leb-true (length (f .rows)) 64 e)
   few-stated f r false e a = let z : _≡_ {A = ℕ} 2 0 = ap numberOf a in absurd (omega arith)
 
-  judged-stated : (o : Option Fleet) → FleetRead tape o → IfAccepted tape (judged o starts ends marks)
+  judged-stated : (o : Option Fleet) → FleetKnown tape o → IfAccepted tape (judged o starts ends marks)
   unfolding judged
   judged-stated none r a = let z : _≡_ {A = ℕ} 11 0 = ap numberOf a in absurd (omega arith)
   judged-stated (some f) r a = few-stated f r (leb (length (f .rows)) 64) refl a
 
   placed-stated : (t : Bool) → IfAccepted tape (cond t (judged (fleetOf tape) starts ends marks) (reading (refused Lists) starts ends marks))
-  placed-stated true a = judged-stated (fleetOf tape) (fleet-read tape b) a
+  placed-stated true a = judged-stated (fleetOf tape) (fleet-known tape b) a
   placed-stated false a = let z : _≡_ {A = ℕ} 1 0 = ap numberOf a in absurd (omega arith)
 
   -- A tape that is accepted is the fleet tape of what was reported and filled in.
@@ -118,7 +110,7 @@ module _ (tape starts ends marks : List ℕ) (b : Bytes tape) where
 -- ---- both ways
 
 -- a fleet tape with at most 64 rows
-pub record FleetTape (tape : List ℕ) : Type 0 where
+pub record IsFleetTape (tape : List ℕ) : Type 0 where
   pub kind : Kind
   pub ticks : ℕ
   pub hours : List (List ℕ)
@@ -129,7 +121,8 @@ pub record FleetTape (tape : List ℕ) : Type 0 where
 
 -- "The reader takes just the fleet tapes of document 01's form with up to 64 rows, into lists of 64."
 pub accepts-iff : (tape : List ℕ) {starts ends marks : List ℕ} → Bytes tape → Places starts ends marks
-    → (fleetRead tape starts ends marks .report .refusal ≡ Accepted) ↔ FleetTape tape
+    → (fleetRead tape starts ends marks .report .refusal ≡ Accepted) ↔ IsFleetTape tape
+unfolding taken
 accepts-iff tape {starts} {ends} {marks} b p = (
   λ a.
       let out = fleetRead tape starts ends marks in

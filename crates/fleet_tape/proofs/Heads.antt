@@ -1,6 +1,6 @@
--- A command at a place of a tape: what it says that one begins there, and the operands that follow.
+-- A command at a place of a tape: what it means that one begins there, and the words that follow.
 use Prim.Native.Nat.{ℕ, _+_, _≤_, _<_}
-use mathlib.Core.Path.{_≡_, refl, sym, ap₂, _∙_}
+use mathlib.Core.Path.{_≡_, sym, _∙_}
 use mathlib.Core.Logic.{_↔_}
 use mathlib.Core.Bool.{true, false}
 use mathlib.Core.List.{List}
@@ -12,8 +12,7 @@ use lib.ListN.{length, getD, drop, length-drop}
 use lib.Seq.{getD-drop}
 use Rattle.labels.proofs.Tests.{and-iff, ltb-iff, eqb-iff}
 use Rattle.tape.specs.Commands.{operandBytes}
-use Rattle.tape.specs.Words.{joined}
-use Rattle.fleet_tape.specs.Form.{begins, wordAt, hoursOf}
+use Rattle.fleet_tape.specs.Form.{begins, wordAt}
 
 pub begins-iff : (c : ℕ) (s : List ℕ) → (begins c s ≡ true) ↔ ((operandBytes c < length s) × (getD s 0 0 ≡ c))
 unfolding begins

@@ -1,6 +1,6 @@
 -- The answer to a tape, by what the reader has looked at: the head, and then the rows.
 use Prim.Native.Nat.{ℕ, _+_, _≤_, _<_}
-use mathlib.Core.Path.{_≡_, refl, sym, ap, _∙_}
+use mathlib.Core.Path.{_≡_, refl}
 use mathlib.Core.Bool.{true, false}
 use mathlib.Core.List.{List}
 use mathlib.Core.Option.{Option, none, some}
@@ -15,9 +15,9 @@ use Rattle.table.specs.declared.Refusal.the-variants.{Accepted, Lists, Rows, Fo
 use Rattle.tape.specs.Commands.{ROUND, RUN, HOURS, operandBytes}
 use Rattle.fleet_tape.specs.declared.Report.{Report}
 use Rattle.fleet_tape.specs.declared.Scanned.the-variants.{Count, Broken}
-use Rattle.fleet_tape.specs.Fleet.{Row}
+use Rattle.fleet_tape.specs.Fleet.{Row, startsOf, endsOf, marksOf}
 use Rattle.fleet_tape.specs.Form.{begins, wordAt, hoursOf, noHours, rowsOf, stated, fleetOf}
-use Rattle.fleet_tape.specs.Scan.{counted, listed, startsOf, endsOf, marksOf, Places}
+use Rattle.fleet_tape.specs.Scan.{counted, listed, Places}
 use Rattle.fleet_tape.specs.Reading.{Reading, reading, refused, filled, taken, judged, hasPlaces, fleetRead}
 use Rattle.fleet_tape.proofs.Heads.{begins-iff, begins-at}
 
@@ -53,13 +53,9 @@ places-of starts ends marks e =
     let p = and-iff (and-iff (eqb-iff (length starts) 64) (eqb-iff (length ends) 64)) (eqb-iff (length marks) 64) .0 e in
     record { starts-64 = p .0 .0; ends-64 = p .0 .1; marks-64 = p .1 }
 
-pub round-fits : (s : List ℕ) → begins ROUND s ≡ true → 2 < length s
-unfolding operandBytes
-round-fits s e = begins-iff ROUND s .0 e .0
-
-pub run-fits : (s : List ℕ) → begins RUN s ≡ true → 2 < length s
-unfolding operandBytes
-run-fits s e = begins-iff RUN s .0 e .0
+-- R stands on the tape, after ROUND and after RUN
+pub ticks-fit : (c : ℕ) (s : List ℕ) → operandBytes c ≡ 2 → begins c s ≡ true → 2 < length s
+ticks-fit c s w e = rw w at (begins-iff c s .0 e .0)
 
 pub hours-fit : (s : List ℕ) (at : ℕ) → begins HOURS (drop at s) ≡ true → at + 8 < length s
 unfolding operandBytes

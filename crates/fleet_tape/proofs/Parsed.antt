@@ -1,5 +1,5 @@
 -- The form that is read from bytes is the fleet tape: `fleetOf` of a fleet tape gives back what the tape states, and a tape of which `fleetOf` gives something is the fleet tape of it.
-use Prim.Native.Nat.{ℕ, zero, suc, _+_, _*_, _/_, _%_, _≤_, _<_}
+use Prim.Native.Nat.{ℕ, zero, suc, _+_, _≤_, _<_}
 use mathlib.Core.Path.{_≡_, refl, sym, ap, _∙_}
 use mathlib.Core.Logic.{⊎-elim}
 use mathlib.Core.Bool.{Bool, true, false, cond, _&&_, and-false}
@@ -7,7 +7,6 @@ use mathlib.Core.List.{List, [], _∷_, _++_}
 use mathlib.Core.Option.{Option, none, some}
 use native.Mathlib.Nat.{add-zero, add-suc, suc-add}
 use native.Mathlib.Omega.{arith}
-use borrow.Author.Tests.{eq-eqb}
 use lib.Dec.{eqb}
 use lib.ListN.{length, getD, drop}
 use lib.Seq.{drop-cons, getD-drop}
@@ -17,8 +16,8 @@ use Rattle.window.specs.declared.Kind.the-variants.{Round, Run}
 use Rattle.tape.specs.Commands.{ROUND, RUN, WINDOW, MUST, HOURS, STOP, operandBytes}
 use Rattle.tape.specs.Words.{joined, highByte, lowByte}
 use Rattle.tape.proofs.Joined.{joined-word}
-use Rattle.fleet_tape.specs.Fleet.{Row, rowCommand, rowsTape, hoursTape, fleetTape, RowFits, RowsFit, HoursFit, Fits}
-use Rattle.fleet_tape.specs.Form.{isRow, markOf, put, rowsOf, Fleet, stated, begins, wordAt, hoursOf, noHours, hoursIn, fleetOf}
+use Rattle.fleet_tape.specs.Fleet.{Row, rowCommand, rowsTape, hoursTape, fleetTape, Bytes, RowsFit, HoursFit, Fits}
+use Rattle.fleet_tape.specs.Form.{isRow, markOf, put, rowsOf, Fleet, fleet, stated, begins, wordAt, hoursOf, noHours, hoursIn, fleetOf}
 use Rattle.fleet_tape.proofs.Heads.{begins-iff}
 
 -- ---- from what is stated to the tape and back
@@ -38,10 +37,6 @@ rows-back : (rows : List Row) → RowsFit rows → rowsOf (rowsTape rows ++ (STO
 unfolding rowsOf rowsTape
 rows-back [] f = refl
 rows-back (row ∷ rows) f = row-back row (rowsOf (rowsTape rows ++ (STOP ∷ []))) (f .0 .mark-1) ∙ ap (put row) (rows-back rows (f .1))
-
--- what a tape states
-abbrev pub fleet : Kind → ℕ → List (List ℕ) → List Row → Fleet
-fleet kind R hours rows = record { kind = kind; ticks = R; hours = hours; rows = rows }
 
 abbrev pairs : ℕ → ℕ → ℕ → ℕ → List (List ℕ)
 pairs p1 q1 p2 q2 = (p1 ∷ q1 ∷ []) ∷ (p2 ∷ q2 ∷ []) ∷ []
@@ -66,10 +61,6 @@ fleet-back Round R hours rows f = round-back R rows (f .rows-fit) hours
 fleet-back Run R hours rows f = let h = f .hours-fit in rw (h .pairs) (run-back R rows (f .rows-fit) (h .p1) (h .q1) (h .p2) (h .q2))
 
 -- ---- from the tape to what it states and back
-
--- a tape is a list of bytes
-abbrev pub Bytes : List ℕ → Type 0
-Bytes s = (i : ℕ) → getD s i 0 < 256
 
 bytes-drop : (n : ℕ) (s : List ℕ) → Bytes s → Bytes (drop n s)
 bytes-drop n s h i = rw (getD-drop n s i 0) (h (n + i))
@@ -99,15 +90,15 @@ pub record RowsStand (s : List ℕ) (rows : List Row) : Type 0 where
   pub bytes : s ≡ rowsTape rows ++ (STOP ∷ [])
   pub fit : RowsFit rows
 
-abbrev RowsRead : List ℕ → Option (List Row) → Type 0
-RowsRead s none = Unit {0}
-RowsRead s (some rows) = RowsStand s rows
+abbrev RowsKnown : List ℕ → Option (List Row) → Type 0
+RowsKnown s none = Unit {0}
+RowsKnown s (some rows) = RowsStand s rows
 
 module _ (x a b c d : ℕ) (rest : List ℕ) (h : Bytes (x ∷ a ∷ b ∷ c ∷ d ∷ rest)) where
   abbrev row : Row
   row = record { start = joined a b; end = joined c d; mark = markOf x }
 
-  one-row : (t : Bool) → isRow x ≡ t → (o : Option (List Row)) → RowsRead rest o → RowsRead (x ∷ a ∷ b ∷ c ∷ d ∷ rest) (cond t (put row o) none)
+  one-row : (t : Bool) → isRow x ≡ t → (o : Option (List Row)) → RowsKnown rest o → RowsKnown (x ∷ a ∷ b ∷ c ∷ d ∷ rest) (cond t (put row o) none)
   unfolding rowsTape
   one-row true e none r = tt
   one-row true e (some rows) r =
@@ -118,19 +109,19 @@ module _ (x a b c d : ℕ) (rest : List ℕ) (h : Bytes (x ∷ a ∷ b ∷ c ∷
       }
   one-row false e o r = tt
 
-last-byte : (x : ℕ) (t : Bool) → eqb x STOP ≡ t → RowsRead (x ∷ []) (cond t (some []) none)
+last-byte : (x : ℕ) (t : Bool) → eqb x STOP ≡ t → RowsKnown (x ∷ []) (cond t (some []) none)
 unfolding rowsTape
 last-byte x true e = record { bytes = ap (λ (b : ℕ). b ∷ []) (eqb-iff x STOP .0 e); fit = tt }
 last-byte x false e = tt
 
-rows-read : (s : List ℕ) → Bytes s → RowsRead s (rowsOf s)
+rows-known : (s : List ℕ) → Bytes s → RowsKnown s (rowsOf s)
 unfolding rowsOf
-rows-read [] h = tt
-rows-read (x ∷ []) h = last-byte x (eqb x STOP) refl
-rows-read (x ∷ a ∷ []) h = tt
-rows-read (x ∷ a ∷ b ∷ []) h = tt
-rows-read (x ∷ a ∷ b ∷ c ∷ []) h = tt
-rows-read (x ∷ a ∷ b ∷ c ∷ d ∷ rest) h = one-row x a b c d rest h (isRow x) refl (rowsOf rest) (rows-read rest (λ i. h (suc (suc (suc (suc (suc i)))))))
+rows-known [] h = tt
+rows-known (x ∷ []) h = last-byte x (eqb x STOP) refl
+rows-known (x ∷ a ∷ []) h = tt
+rows-known (x ∷ a ∷ b ∷ []) h = tt
+rows-known (x ∷ a ∷ b ∷ c ∷ []) h = tt
+rows-known (x ∷ a ∷ b ∷ c ∷ d ∷ rest) h = one-row x a b c d rest h (isRow x) refl (rowsOf rest) (rows-known rest (λ i. h (suc (suc (suc (suc (suc i)))))))
 
 -- n bytes from place i on
 abbrev bytesFrom : ℕ → ℕ → List ℕ → List ℕ
@@ -148,9 +139,9 @@ pub record FleetStands (s : List ℕ) (f : Fleet) : Type 0 where
   pub bytes : s ≡ fleetTape (f .kind) (f .ticks) (f .hours) (f .rows)
   pub fit : Fits (f .ticks) (f .hours) (f .rows)
 
-abbrev pub FleetRead : List ℕ → Option Fleet → Type 0
-FleetRead s none = Unit {0}
-FleetRead s (some f) = FleetStands s f
+abbrev pub FleetKnown : List ℕ → Option Fleet → Type 0
+FleetKnown s none = Unit {0}
+FleetKnown s (some f) = FleetStands s f
 
 hours-bytes : (t : List ℕ) → Bytes t → begins HOURS t ≡ true → (u : List ℕ) → drop 9 t ≡ u → t ≡ hoursTape (hoursOf t) ++ u
 unfolding operandBytes
@@ -177,10 +168,10 @@ module _ (s : List ℕ) (h : Bytes s) where
   ticks-16 : wordAt s 1 < 65536
   ticks-16 = joined-16 (getD s 1 0) (getD s 2 0) (h 1) (h 2)
 
-  round-read : begins ROUND s ≡ true → (o : Option (List Row)) → RowsRead (drop 3 s) o → FleetRead s (stated Round (wordAt s 1) noHours o)
+  round-known : begins ROUND s ≡ true → (o : Option (List Row)) → RowsKnown (drop 3 s) o → FleetKnown s (stated Round (wordAt s 1) noHours o)
   unfolding fleetTape operandBytes
-  round-read e none r = tt
-  round-read e (some rows) r =
+  round-known e none r = tt
+  round-known e (some rows) r =
       let b = begins-iff ROUND s .0 e in
       record {
         bytes = spread s 0 3 (b .0) ∙ (λ i. b .1 i ∷ high-joined (getD s 1 0) (getD s 2 0) (h 2) i ∷ low-joined (getD s 1 0) (getD s 2 0) (h 2) i ∷ r .bytes i);
@@ -191,10 +182,10 @@ module _ (s : List ℕ) (h : Bytes s) where
         };
       }
 
-  run-read : begins RUN s ≡ true → begins HOURS (drop 3 s) ≡ true → (o : Option (List Row)) → RowsRead (drop 9 (drop 3 s)) o → FleetRead s (stated Run (wordAt s 1) (hoursOf (drop 3 s)) o)
+  run-known : begins RUN s ≡ true → begins HOURS (drop 3 s) ≡ true → (o : Option (List Row)) → RowsKnown (drop 9 (drop 3 s)) o → FleetKnown s (stated Run (wordAt s 1) (hoursOf (drop 3 s)) o)
   unfolding fleetTape operandBytes
-  run-read e g none r = tt
-  run-read e g (some rows) r =
+  run-known e g none r = tt
+  run-known e g (some rows) r =
       let b = begins-iff RUN s .0 e in
       let t = hours-bytes (drop 3 s) (bytes-drop 3 s h) g (rowsTape rows ++ (STOP ∷ [])) (r .bytes) in
       record {
@@ -202,14 +193,14 @@ module _ (s : List ℕ) (h : Bytes s) where
         fit = record { ticks-16 = ticks-16; hours-fit = hours-fits (drop 3 s) (bytes-drop 3 s h); rows-fit = r .fit };
       }
 
-  head-read : (t : Bool) → begins ROUND s ≡ t → (u : Bool) → (begins RUN s && begins HOURS (drop 3 s)) ≡ u
-      → FleetRead s (cond t (stated Round (wordAt s 1) noHours (rowsOf (drop 3 s))) (cond u (stated Run (wordAt s 1) (hoursOf (drop 3 s)) (rowsOf (drop 9 (drop 3 s)))) none))
-  head-read true e u g = round-read e (rowsOf (drop 3 s)) (rows-read (drop 3 s) (bytes-drop 3 s h))
-  head-read false e true g =
+  head-known : (t : Bool) → begins ROUND s ≡ t → (u : Bool) → (begins RUN s && begins HOURS (drop 3 s)) ≡ u
+      → FleetKnown s (cond t (stated Round (wordAt s 1) noHours (rowsOf (drop 3 s))) (cond u (stated Run (wordAt s 1) (hoursOf (drop 3 s)) (rowsOf (drop 9 (drop 3 s)))) none))
+  head-known true e u g = round-known e (rowsOf (drop 3 s)) (rows-known (drop 3 s) (bytes-drop 3 s h))
+  head-known false e true g =
       let b = and-iff (λ x. x, λ x. x) (λ x. x, λ x. x) .0 g in
-      run-read (b .0) (b .1) (rowsOf (drop 9 (drop 3 s))) (rows-read (drop 9 (drop 3 s)) (bytes-drop 9 (drop 3 s) (bytes-drop 3 s h)))
-  head-read false e false g = tt
+      run-known (b .0) (b .1) (rowsOf (drop 9 (drop 3 s))) (rows-known (drop 9 (drop 3 s)) (bytes-drop 9 (drop 3 s) (bytes-drop 3 s h)))
+  head-known false e false g = tt
 
-  pub fleet-read : FleetRead s (fleetOf s)
+  pub fleet-known : FleetKnown s (fleetOf s)
   unfolding fleetOf operandBytes
-  fleet-read = head-read (begins ROUND s) refl (begins RUN s && begins HOURS (drop 3 s)) refl
+  fleet-known = head-known (begins ROUND s) refl (begins RUN s && begins HOURS (drop 3 s)) refl

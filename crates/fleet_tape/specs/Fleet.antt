@@ -1,8 +1,8 @@
 -- What a fleet tape is (paper 01, "Tapes"): from kind, R, hours and rows to bytes.
 use Prim.Native.Nat.{ℕ, zero, suc, _≤_, _<_}
 use mathlib.Core.Path.{_≡_}
-use mathlib.Core.List.{List, [], _∷_, _++_}
-use lib.ListN.{take}
+use mathlib.Core.List.{List, [], _∷_, _++_, map}
+use lib.ListN.{getD, take}
 use Rattle.window.specs.declared.Kind.{Kind}
 use Rattle.window.specs.declared.Kind.the-variants.{Round, Run}
 use Rattle.table.specs.Tables.{hour}
@@ -45,6 +45,10 @@ fleetTape kind R hours rows = headTape kind R hours ++ rowsTape rows ++ (STOP �
 
 -- ---- what a fleet tape can state
 
+-- a tape is a list of bytes
+abbrev pub Bytes : List ℕ → Type 0
+Bytes s = (i : ℕ) → getD s i 0 < 256
+
 -- "start (16), end (16)", and a mark that WINDOW or MUST gives
 pub record RowFits (row : Row) : Type 0 where
   pub start-16 : row .start < 65536
@@ -72,9 +76,17 @@ pub record Fits (R : ℕ) (hours : List (List ℕ)) (rows : List Row) : Type 0 w
   pub hours-fit : HoursFit hours
   pub rows-fit : RowsFit rows
 
--- ---- rows as they are lent
+-- ---- rows as they are lent: "three lists, starts, ends and marks"
 
--- "The table is lent as three lists, starts, ends and marks"
+abbrev pub startsOf : List Row → List ℕ
+startsOf rows = map (λ row. row .start) rows
+
+abbrev pub endsOf : List Row → List ℕ
+endsOf rows = map (λ row. row .end) rows
+
+abbrev pub marksOf : List Row → List ℕ
+marksOf rows = map (λ row. row .mark) rows
+
 abbrev pub rowsOfLists : List ℕ → List ℕ → List ℕ → List Row
 rowsOfLists [] ends marks = []
 rowsOfLists (s ∷ starts) [] marks = []

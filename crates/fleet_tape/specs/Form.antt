@@ -44,9 +44,12 @@ pub record Fleet : Type 0 where
   pub hours : List (List ℕ)
   pub rows : List Row
 
+abbrev pub fleet : Kind → ℕ → List (List ℕ) → List Row → Fleet
+fleet kind R hours rows = record { kind = kind; ticks = R; hours = hours; rows = rows }
+
 abbrev pub stated : Kind → ℕ → List (List ℕ) → Option (List Row) → Option Fleet
 stated kind R hours none = none
-stated kind R hours (some rows) = some (record { kind = kind; ticks = R; hours = hours; rows = rows })
+stated kind R hours (some rows) = some (fleet kind R hours rows)
 
 -- the command stands first, and all bytes of its operands follow
 unfoldable pub begins : ℕ → List ℕ → Bool

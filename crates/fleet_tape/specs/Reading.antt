@@ -1,7 +1,7 @@
 -- The right answer of a call of the fleet tape reader, whole: the report and what the three lists then hold, on every input.
 use Prim.Native.Nat.{ℕ}
 use mathlib.Core.Bool.{Bool, cond, _&&_}
-use mathlib.Core.List.{List, _++_, map}
+use mathlib.Core.List.{List, _++_}
 use mathlib.Core.Option.{Option, none, some}
 use lib.Dec.{leb, eqb}
 use lib.ListN.{length, drop}
@@ -9,7 +9,7 @@ use Rattle.window.specs.declared.Kind.the-variants.{Round}
 use Rattle.table.specs.declared.Refusal.{Refusal}
 use Rattle.table.specs.declared.Refusal.the-variants.{Accepted, Lists, Rows, Form}
 use Rattle.fleet_tape.specs.declared.Report.{Report}
-use Rattle.fleet_tape.specs.Fleet.{Row}
+use Rattle.fleet_tape.specs.Fleet.{startsOf, endsOf, marksOf}
 use Rattle.fleet_tape.specs.Form.{Fleet, fleetOf, noHours}
 
 -- what a call gives
@@ -45,9 +45,9 @@ filled present before = present ++ drop (length present) before
 unfoldable pub taken : Fleet → List ℕ → List ℕ → List ℕ → Reading
 taken fleet starts ends marks =
     reading (accepted fleet)
-    (filled (map (λ row. row .start) (fleet .rows)) starts)
-    (filled (map (λ row. row .end) (fleet .rows)) ends)
-    (filled (map (λ row. row .mark) (fleet .rows)) marks)
+    (filled (startsOf (fleet .rows)) starts)
+    (filled (endsOf (fleet .rows)) ends)
+    (filled (marksOf (fleet .rows)) marks)
 
 -- "11: a fleet tape not of the form above"; "2: more than 64 rows"
 unfoldable pub judged : Option Fleet → List ℕ → List ℕ → List ℕ → Reading

@@ -1,8 +1,8 @@
 -- The scan of a tape's rows and the filling of the lists: what the reader's inner functions promise.
-use Prim.Native.Nat.{ℕ, _≤_}
+use Prim.Native.Nat.{ℕ, _≤_, _<_}
 use mathlib.Core.Path.{_≡_}
 use mathlib.Core.Bool.{Bool, _&&_, _||_}
-use mathlib.Core.List.{List, [], map}
+use mathlib.Core.List.{List, []}
 use mathlib.Core.Option.{Option, none, some}
 use lib.Dec.{eqb}
 use lib.ListN.{length, drop}
@@ -29,14 +29,9 @@ abbrev pub listed : Option (List Row) → List Row
 listed none = []
 listed (some rows) = rows
 
-abbrev pub startsOf : List Row → List ℕ
-startsOf rows = map (λ row. row .start) rows
-
-abbrev pub endsOf : List Row → List ℕ
-endsOf rows = map (λ row. row .end) rows
-
-abbrev pub marksOf : List Row → List ℕ
-marksOf rows = map (λ row. row .mark) rows
+-- the place lies on the tape
+pub record Inside (tape : List ℕ) (at : ℕ) : Type 0 where
+  pub inside : at < length tape
 
 -- lists of 64 places
 pub record Places (starts ends marks : List ℕ) : Type 0 where

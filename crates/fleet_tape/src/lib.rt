@@ -1,10 +1,10 @@
 // The reader of fleet tapes: the form is judged to the end of the tape, and then the lists are filled.
 ghost use mathlib.Core.Path.{_≡_};
-ghost use Prim.Native.Nat.{_+_, _<_};
-ghost use lib.ListN.{length, drop};
-ghost use Rattle.tape.specs.Commands.{operandBytes};
+ghost use Prim.Native.Nat.{_+_};
+ghost use lib.ListN.{drop};
+ghost use Rattle.fleet_tape.specs.Fleet.{startsOf, endsOf, marksOf};
 ghost use Rattle.fleet_tape.specs.Form.{begins, wordAt, hoursOf, markOf, rowsOf, stated};
-ghost use Rattle.fleet_tape.specs.Scan.{rowFirst, stopLast, counted, listed, startsOf, endsOf, marksOf, Places, Fillable};
+ghost use Rattle.fleet_tape.specs.Scan.{rowFirst, stopLast, counted, listed, Inside, Places, Fillable};
 ghost use Rattle.fleet_tape.specs.Reading.{hasPlaces, refused, filled, reading, judged, fleetRead};
 use table::Refusal;
 use tape::HOURS;
@@ -32,13 +32,8 @@ pub enum Scanned {
     Broken,
 }
 
-pub fn report_of(
-    refusal: Refusal,
-    kind: Kind,
-    ticks: u16,
-    hours: [[u16; 2]; 2],
-    rows: usize,
-) -> Report
+// Makes a report. Its field of arrays is written here and read in `hours_in`, and nowhere else: these two are proved by a walk of their code.
+fn report_of(refusal: Refusal, kind: Kind, ticks: u16, hours: [[u16; 2]; 2], rows: usize) -> Report
     ensures { λ r. ⌜ r ≡ record { refusal = refusal; kind = kind; ticks = ticks; hours = hours; rows = rows } ⌝ }
 {
     Report {
@@ -128,7 +123,7 @@ fn count_rows(tape: &[u8], from: usize) -> Scanned
 
 // The 16-bit operand at a place.
 fn word_at(tape: &[u8], at: usize) -> u16
-    requires { ⌜ at + 1 < length (now tape) ⌝ }
+    requires { ⌜ Inside (now tape) (at + 1) ⌝ }
     ensures { λ r. ⌜ r ≡ wordAt (now (tape .entry)) at ⌝ }
 {
     join_bytes(tape[at], tape[at + 1])
@@ -136,7 +131,7 @@ fn word_at(tape: &[u8], at: usize) -> u16
 
 // The operands of HOURS at a place.
 fn hours_at(tape: &[u8], at: usize) -> [[u16; 2]; 2]
-    requires { ⌜ at + 8 < length (now tape) ⌝ }
+    requires { ⌜ Inside (now tape) (at + 8) ⌝ }
     ensures { λ r. ⌜ r ≡ hoursOf (drop at (now (tape .entry))) ⌝ }
 {
     let p1 = word_at(tape, at + 1);

@@ -7,8 +7,9 @@ use native.Mathlib.Omega.{arith}
 use lib.ListN.{length, drop, length-set}
 use lib.Seq.{sets}
 use Rattle.fleet_tape.specs.declared.Scanned.the-variants.{Count}
+use Rattle.fleet_tape.specs.Fleet.{startsOf, endsOf, marksOf}
 use Rattle.fleet_tape.specs.Form.{rowsOf}
-use Rattle.fleet_tape.specs.Scan.{counted, listed, startsOf, endsOf, marksOf, Places}
+use Rattle.fleet_tape.specs.Scan.{counted, listed, Places}
 use Rattle.fleet_tape.proofs.Rows.{Next, next-row, fill-more, fill-done, fill-all}
 use borrow.Author.Needs.{needs}
 use Rattle.fleet_tape.proofs.fill_rows.Statement.{statement}

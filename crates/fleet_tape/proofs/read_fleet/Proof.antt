@@ -1,11 +1,11 @@
 -- `fleet_tape::read_fleet` meets its contract: by what the lists and the head of the tape told, and then by `read_rows`.
-use Prim.Native.Nat.{_+_, _<_}
+-- In an answer p, n, r and h are the places after the tests for the lists, ROUND, RUN and HOURS, and a is the arguments.
 use mathlib.Core.Path.{_≡_, refl, sym, _∙_}
 use mathlib.Core.Bool.{Bool, true, false, not}
 use native.Mathlib.Omega.{arith}
 use borrow.Author.Tests.{not-true, not-false}
-use Rattle.tape.specs.Commands.{operandBytes}
-use Rattle.fleet_tape.proofs.Judged.{reading-same, places-of, round-fits, run-fits, hours-fit, read-unplaced, read-round, read-neither, read-no-hours, read-run}
+use Rattle.tape.specs.Commands.{ROUND, RUN, operandBytes}
+use Rattle.fleet_tape.proofs.Judged.{reading-same, places-of, ticks-fit, hours-fit, read-unplaced, read-round, read-neither, read-no-hours, read-run}
 use borrow.Author.Needs.{needs}
 use Rattle.fleet_tape.proofs.read_fleet.Statement.{statement}
 use Rattle.fleet_tape.proofs.read_fleet.Tie as tie
@@ -25,15 +25,19 @@ refuse-requires c κs = search needs
 
 returns : tie.Need-returns
 returns c =
-    let a = c .before .before .before .before .before .before .before .args in
-    reading-same (c .refuse .ensures) refl refl refl ∙ sym (read-unplaced (a .tape .now) (a .starts .now) (a .ends .now) (a .marks .now) (failed (c .before .before .has-places .ensures) (c .before .if1 .taken)))
+    let p = c .before in
+    let a = p .before .before .before .before .before .before .args in
+    reading-same (c .refuse .ensures) refl refl refl ∙ sym (read-unplaced (a .tape .now) (a .starts .now) (a .ends .now) (a .marks .now) (failed (p .before .has-places .ensures) (p .if1 .taken)))
 
 begins-requires : tie.Need-begins-requires
 begins-requires c κs = search needs
 
 word-at-requires : tie.Need-word-at-requires
+unfolding operandBytes
 word-at-requires c κs =
-    omega (arith, round-fits (c .before .before .before .before .before .before .before .before .args .tape .now) (sym (c .before .begins .ensures) ∙ c .if2 .taken))
+    let p = c .before .before in
+    let a = p .before .before .before .before .before .before .args in
+    record { inside = ticks-fit ROUND (a .tape .now) refl (sym (c .before .begins .ensures) ∙ c .if2 .taken) }
 
 operand-bytes-requires : tie.Need-operand-bytes-requires
 operand-bytes-requires c κs = search needs
@@ -44,9 +48,9 @@ add-from c = omega (arith, c .operand-bytes .ensures)
 
 read-rows-requires : tie.Need-read-rows-requires
 read-rows-requires c κs =
-    let a = c .before .before .before .before .before .before .before .before .before .before .before .before .before .args in
-    let p = kept (c .before .before .before .before .before .before .before .before .has-places .ensures) (c .before .before .before .before .before .before .before .if1 .left) in
-    places-of (a .starts .now) (a .ends .now) (a .marks .now) p
+    let p = c .before .before .before .before .before .before .before in
+    let a = p .before .before .before .before .before .before .args in
+    places-of (a .starts .now) (a .ends .now) (a .marks .now) (kept (p .before .has-places .ensures) (p .if1 .left))
 
 same-length : tie.Need-same-length
 same-length c = search needs
@@ -59,10 +63,12 @@ same-length-3 c = search needs
 
 returns-2 : tie.Need-returns-2
 returns-2 c =
-    let a = c .before .before .before .before .before .before .before .before .before .before .before .before .before .before .before .before .before .before .before .before .args in
-    let p = kept (c .before .before .before .before .before .before .before .before .before .before .before .before .before .before .before .has-places .ensures) (c .before .before .before .before .before .before .before .before .before .before .before .before .before .before .if1 .left) in
-    let b = sym (c .before .before .before .before .before .before .before .before .before .before .before .before .before .begins .ensures) ∙ c .before .before .before .before .before .before .before .before .before .before .before .before .if2 .taken in
-    c .before .before .before .before .before .before .read-rows .ensures ∙ sym (read-round (a .tape .now) (a .starts .now) (a .ends .now) (a .marks .now) p _ _ b (c .before .before .before .before .before .before .before .before .before .before .before .word-at .ensures) (c .before .before .before .before .before .before .before .before .before .before .operand-bytes .ensures))
+    let d = c .before .before .before .before .before .before in
+    let n = d .before .before .before .before .before .before in
+    let p = n .before .before in
+    let a = p .before .before .before .before .before .before .args in
+    d .read-rows .ensures
+    ∙ sym (read-round (a .tape .now) (a .starts .now) (a .ends .now) (a .marks .now) (kept (p .before .has-places .ensures) (p .if1 .left)) _ _ (sym (n .before .begins .ensures) ∙ n .if2 .taken) (d .before .before .before .before .before .word-at .ensures) (d .before .before .before .before .operand-bytes .ensures))
 
 begins-requires-2 : tie.Need-begins-requires-2
 begins-requires-2 c κs = search needs
@@ -72,10 +78,11 @@ refuse-requires-2 c κs = search needs
 
 returns-3 : tie.Need-returns-3
 returns-3 c =
-    let a = c .before .before .before .before .before .before .before .before .before .before .before .args in
-    let p = kept (c .before .before .before .before .before .before .has-places .ensures) (c .before .before .before .before .before .if1 .left) in
-    let n = sym (c .before .before .before .before .begins .ensures) ∙ c .before .before .before .if2 .left in
-    reading-same (c .refuse2 .ensures) refl refl refl ∙ sym (read-neither (a .tape .now) (a .starts .now) (a .ends .now) (a .marks .now) p n (failed (c .before .before .begins2 .ensures) (c .before .if3 .taken)))
+    let r = c .before in
+    let n = r .before .before in
+    let p = n .before .before in
+    let a = p .before .before .before .before .before .before .args in
+    reading-same (c .refuse2 .ensures) refl refl refl ∙ sym (read-neither (a .tape .now) (a .starts .now) (a .ends .now) (a .marks .now) (kept (p .before .has-places .ensures) (p .if1 .left)) (sym (n .before .begins .ensures) ∙ n .if2 .left) (failed (r .before .begins2 .ensures) (r .if3 .taken)))
 
 operand-bytes-requires-2 : tie.Need-operand-bytes-requires-2
 operand-bytes-requires-2 c κs = search needs
@@ -92,19 +99,28 @@ refuse-requires-3 c κs = search needs
 
 returns-4 : tie.Need-returns-4
 returns-4 c =
-    let a = c .before .before .before .before .before .before .before .before .before .before .before .before .before .before .args in
-    let p = kept (c .before .before .before .before .before .before .before .before .before .has-places .ensures) (c .before .before .before .before .before .before .before .before .if1 .left) in
-    let n = sym (c .before .before .before .before .before .before .before .begins .ensures) ∙ c .before .before .before .before .before .before .if2 .left in
-    let b = kept (c .before .before .before .before .before .begins2 .ensures) (c .before .before .before .before .if3 .left) in
-    reading-same (c .refuse3 .ensures) refl refl refl ∙ sym (read-no-hours (a .tape .now) (a .starts .now) (a .ends .now) (a .marks .now) p n b _ (c .before .before .before .operand-bytes2 .ensures) (failed (c .before .before .begins3 .ensures) (c .before .if4 .taken)))
+    let h = c .before in
+    let r = h .before .before .before in
+    let n = r .before .before in
+    let p = n .before .before in
+    let a = p .before .before .before .before .before .before .args in
+    reading-same (c .refuse3 .ensures) refl refl refl
+    ∙ sym (read-no-hours (a .tape .now) (a .starts .now) (a .ends .now) (a .marks .now) (kept (p .before .has-places .ensures) (p .if1 .left)) (sym (n .before .begins .ensures) ∙ n .if2 .left) (kept (r .before .begins2 .ensures) (r .if3 .left)) _ (h .before .before .operand-bytes2 .ensures) (failed (h .before .begins3 .ensures) (h .if4 .taken)))
 
 word-at-requires-2 : tie.Need-word-at-requires-2
+unfolding operandBytes
 word-at-requires-2 c κs =
-    omega (arith, run-fits (c .before .before .before .before .before .before .before .before .before .before .before .before .before .args .tape .now) (kept (c .before .before .before .before .begins2 .ensures) (c .before .before .before .if3 .left)))
+    let r = c .before .before .before in
+    let p = r .before .before .before .before in
+    let a = p .before .before .before .before .before .before .args in
+    record { inside = ticks-fit RUN (a .tape .now) refl (kept (r .before .begins2 .ensures) (r .if3 .left)) }
 
 hours-at-requires : tie.Need-hours-at-requires
 hours-at-requires c κs =
-    hours-fit (c .before .before .before .before .before .before .before .before .before .before .before .before .before .before .args .tape .now) _ (kept (c .before .before .begins3 .ensures) (c .before .if4 .left))
+    let h = c .before in
+    let p = h .before .before .before .before .before .before .before in
+    let a = p .before .before .before .before .before .before .args in
+    record { inside = hours-fit (a .tape .now) _ (kept (h .before .begins3 .ensures) (h .if4 .left)) }
 
 add-from-2 : tie.Need-add-from-2
 unfolding operandBytes
@@ -119,9 +135,9 @@ add-from-3 c = omega (arith, c .before .before .before .before .before .operand-
 
 read-rows-requires-2 : tie.Need-read-rows-requires-2
 read-rows-requires-2 c κs =
-    let a = c .before .before .before .before .before .before .before .before .before .before .before .before .before .before .before .before .before .before .before .args in
-    let p = kept (c .before .before .before .before .before .before .before .before .before .before .before .before .before .before .has-places .ensures) (c .before .before .before .before .before .before .before .before .before .before .before .before .before .if1 .left) in
-    places-of (a .starts .now) (a .ends .now) (a .marks .now) p
+    let p = c .before .before .before .before .before .before .before .before .before .before .before .before .before in
+    let a = p .before .before .before .before .before .before .args in
+    places-of (a .starts .now) (a .ends .now) (a .marks .now) (kept (p .before .has-places .ensures) (p .if1 .left))
 
 same-length-4 : tie.Need-same-length-4
 same-length-4 c = search needs
@@ -134,13 +150,15 @@ same-length-6 c = search needs
 
 returns-5 : tie.Need-returns-5
 returns-5 c =
-    let a = c .before .before .before .before .before .before .before .before .before .before .before .before .before .before .before .before .before .before .before .before .before .before .before .before .before .before .args in
-    let p = kept (c .before .before .before .before .before .before .before .before .before .before .before .before .before .before .before .before .before .before .before .before .before .has-places .ensures) (c .before .before .before .before .before .before .before .before .before .before .before .before .before .before .before .before .before .before .before .before .if1 .left) in
-    let n = sym (c .before .before .before .before .before .before .before .before .before .before .before .before .before .before .before .before .before .before .before .begins .ensures) ∙ c .before .before .before .before .before .before .before .before .before .before .before .before .before .before .before .before .before .before .if2 .left in
-    let b = kept (c .before .before .before .before .before .before .before .before .before .before .before .before .before .before .before .before .before .begins2 .ensures) (c .before .before .before .before .before .before .before .before .before .before .before .before .before .before .before .before .if3 .left) in
-    let h = kept (c .before .before .before .before .before .before .before .before .before .before .before .before .before .before .begins3 .ensures) (c .before .before .before .before .before .before .before .before .before .before .before .before .before .if4 .left) in
-    c .before .before .before .before .before .before .read-rows2 .ensures
-    ∙ sym (read-run (a .tape .now) (a .starts .now) (a .ends .now) (a .marks .now) p n b _ (c .before .before .before .before .before .before .before .before .before .before .before .before .before .before .before .operand-bytes2 .ensures) h _ _ _ (c .before .before .before .before .before .before .before .before .before .before .before .before .word-at2 .ensures) (c .before .before .before .before .before .before .before .before .before .before .before .hours-at .ensures) (c .before .before .before .before .before .before .before .before .before .before .operand-bytes3 .ensures))
+    let d = c .before .before .before .before .before .before in
+    let o = d .before .before .before .before in
+    let h = o .before .before .before in
+    let r = h .before .before .before in
+    let n = r .before .before in
+    let p = n .before .before in
+    let a = p .before .before .before .before .before .before .args in
+    d .read-rows2 .ensures
+    ∙ sym (read-run (a .tape .now) (a .starts .now) (a .ends .now) (a .marks .now) (kept (p .before .has-places .ensures) (p .if1 .left)) (sym (n .before .begins .ensures) ∙ n .if2 .left) (kept (r .before .begins2 .ensures) (r .if3 .left)) _ (h .before .before .operand-bytes2 .ensures) (kept (h .before .begins3 .ensures) (h .if4 .left)) _ _ _ (o .before .before .word-at2 .ensures) (o .before .hours-at .ensures) (o .operand-bytes3 .ensures))
 
 pub read-fleet-spec : {M : Type 1} → statement M
 read-fleet-spec =

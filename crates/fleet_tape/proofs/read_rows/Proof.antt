@@ -1,6 +1,6 @@
 -- `fleet_tape::read_rows` meets its contract: by what `count_rows` found.
-use mathlib.Core.Path.{_≡_, refl, sym, ap, _∙_}
-use native.Mathlib.Omega.{arith}
+-- In an answer k is the place where the number of rows is known, and a is the arguments.
+use mathlib.Core.Path.{_≡_, refl, sym, _∙_}
 use lib.ListN.{drop}
 use Rattle.fleet_tape.specs.declared.Scanned.the-variants.{Count, Broken}
 use Rattle.fleet_tape.specs.Form.{rowsOf}
@@ -21,17 +21,19 @@ refuse-requires c κs = search needs
 
 returns : tie.Need-returns
 returns c =
-    let a = c .before .before .before .before .before .before .before .before .before .before .args in
+    let k = c .before .before .before in
+    let a = k .before .before .before .before .before .before .before .args in
     let o = rowsOf (drop (a .from) (a .tape .now)) in
-    let e : counted o ≡ Count (c .before .before .before .rows .given .0 .0) = sym (c .before .before .before .before .before .count-rows .ensures) ∙ c .before .before .before .rows .given .1 in
+    let e : counted o ≡ Count (k .rows .given .0 .0) = sym (k .before .before .count-rows .ensures) ∙ k .rows .given .1 in
     reading-same (c .refuse .ensures) refl refl refl ∙ sym (read-many (a .kind) (a .ticks) (a .hours) (a .starts .now) (a .ends .now) (a .marks .now) o _ e (c .before .if1 .taken))
 
 fill-rows-requires : tie.Need-fill-rows-requires
 fill-rows-requires c κs =
+    let k = c .before .before .before .before .before in
     record {
-      form = sym (c .before .before .before .before .before .before .before .count-rows .ensures) ∙ c .before .before .before .before .before .rows .given .1;
+      form = sym (k .before .before .count-rows .ensures) ∙ k .rows .given .1;
       few = c .before .before .before .if1 .left;
-      places = c .before .before .before .before .before .before .before .before .before .before .before .before .pre;
+      places = k .before .before .before .before .before .before .before .pre;
     }
 
 report-of-requires : tie.Need-report-of-requires
@@ -54,18 +56,20 @@ same-length-3 c = search needs
 
 returns-2 : tie.Need-returns-2
 returns-2 c =
-    let a = c .before .before .before .before .before .before .before .before .before .before .before .before .before .before .before .before .before .before .before .before .args in
+    let f = c .before .before .before .before .before .before .before in
+    let k = f .before .before .before .before .before .before in
+    let a = k .before .before .before .before .before .before .before .args in
     let o = rowsOf (drop (a .from) (a .tape .now)) in
-    let e : counted o ≡ Count (c .before .before .before .before .before .before .before .before .before .before .before .before .before .rows .given .0 .0) = sym (c .before .before .before .before .before .before .before .before .before .before .before .before .before .before .before .count-rows .ensures) ∙ c .before .before .before .before .before .before .before .before .before .before .before .before .before .rows .given .1 in
-    let f = c .before .before .before .before .before .before .before .fill-rows .ensures in
-    reading-same (c .report-of .ensures) (f .0) (f .1 .0) (f .1 .1)
-    ∙ sym (read-taken (a .kind) (a .ticks) (a .hours) (a .starts .now) (a .ends .now) (a .marks .now) o _ e (c .before .before .before .before .before .before .before .before .before .before .before .if1 .left))
+    let e : counted o ≡ Count (k .rows .given .0 .0) = sym (k .before .before .count-rows .ensures) ∙ k .rows .given .1 in
+    let w = f .fill-rows .ensures in
+    reading-same (c .report-of .ensures) (w .0) (w .1 .0) (w .1 .1) ∙ sym (read-taken (a .kind) (a .ticks) (a .hours) (a .starts .now) (a .ends .now) (a .marks .now) o _ e (f .before .before .before .before .if1 .left))
 
 returns-3 : tie.Need-returns-3
 returns-3 c =
-    let a = c .before .before .before .before .before .before .before .before .args in
+    let k = c .before in
+    let a = k .before .before .before .before .before .before .before .args in
     let o = rowsOf (drop (a .from) (a .tape .now)) in
-    let e : counted o ≡ Broken = sym (c .before .before .before .count-rows .ensures) ∙ c .before .enum-told .given .1 in
+    let e : counted o ≡ Broken = sym (k .before .before .count-rows .ensures) ∙ k .enum-told .given .1 in
     reading-same (c .refuse2 .ensures) refl refl refl ∙ sym (read-broken (a .kind) (a .ticks) (a .hours) (a .starts .now) (a .ends .now) (a .marks .now) o e)
 
 pub read-rows-spec : {M : Type 1} → statement M

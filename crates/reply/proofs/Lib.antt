@@ -1,0 +1,4 @@
+-- Laws of the reply.
+pub mod Putting
+pub mod Replying
+pub mod Session

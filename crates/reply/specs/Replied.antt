@@ -1,0 +1,62 @@
+-- The right answer of a call of `reply`, whole: how many bytes it writes, and what the output and the working space then hold, on every input.
+use Prim.Native.Nat.{ℕ}
+use mathlib.Core.Bool.{cond}
+use mathlib.Core.List.{List, [], _++_}
+use lib.Dec.{leb, eqb}
+use lib.ListN.{length, take, drop, replicate}
+use Rattle.table.specs.declared.Refusal.{Refusal}
+use Rattle.table.specs.declared.Refusal.the-variants.{Form}
+use Rattle.table.specs.Refusals.{numberOf}
+use Rattle.table.specs.Tables.{Table, table}
+use Rattle.table.specs.Planned.{Planned, planned, spaceAfter}
+use Rattle.fleet_tape.specs.Reading.{Reading, fleetRead}
+use Rattle.reply.specs.Lines.{printed}
+
+-- the lists that the reader fills have 64 places
+unfoldable pub places : List ℕ
+places = replicate 64 0
+
+-- the table that was read: the rows present
+abbrev pub tableOf : Reading → Table
+tableOf r =
+    table (r .report .kind) (r .report .ticks) (r .report .hours)
+    (take (r .report .rows) (r .starts))
+    (take (r .report .rows) (r .ends))
+    (take (r .report .rows) (r .marks))
+
+abbrev pub refusedWith : Refusal → Planned
+refusedWith refusal = record { answer = record { refusal = refusal; count = 0 }; labels = [] }
+
+-- what was read is planned, with so many bytes of working space, unless the reader refuses
+unfoldable pub readAnswer : Reading → ℕ → Planned
+unfolding planned
+readAnswer r space =
+    cond (eqb (numberOf (r .report .refusal)) 0)
+    (planned (tableOf r) (take (r .report .rows) places) space)
+    (refusedWith (r .report .refusal))
+
+-- "`hubplan` reads a fleet tape .. A tape longer than 400 bytes prints "refused 11", even where the reader would give 2."
+unfoldable pub tapeAnswer : List ℕ → ℕ → Planned
+unfolding readAnswer fleetRead places
+tapeAnswer tape space = cond (leb (length tape) 400) (readAnswer (fleetRead tape places places places) space) (refusedWith Form)
+
+-- what a call gives
+pub record Replied : Type 0 where
+  pub written : ℕ
+  pub out : List ℕ
+  pub space : List ℕ
+
+abbrev pub replying : ℕ → List ℕ → List ℕ → Replied
+replying written out space = record { written = written; out = out; space = space }
+
+-- the lines stand at the front of the output, and after them what was there before; the working space is what the refusal leaves
+unfoldable pub repliedWith : Planned → List ℕ → List ℕ → Replied
+unfolding printed spaceAfter
+repliedWith p out space =
+    replying (length (printed p)) (printed p ++ drop (length (printed p)) out) (spaceAfter (p .answer .refusal) space)
+
+-- The reply to a tape, for an output and working space that are lent. Less than 400 bytes of output: nothing is written.
+unfoldable pub replied : List ℕ → List ℕ → List ℕ → Replied
+unfolding tapeAnswer repliedWith
+replied tape out space =
+    cond (leb 400 (length out)) (repliedWith (tapeAnswer tape (length space)) out space) (replying 0 out space)
