@@ -188,3 +188,21 @@ pub fn search(rows: usize, sets: &[u64; 8], permissions: &[u8; 8]) -> Found {
         best: s.best,
     }
 }
+
+// Two answers, or their labels where there is a plan, are not the same.
+pub fn other(answer: u8, labels: &[u8; 8], answer2: u8, labels2: &[u8; 8]) -> bool {
+    if answer != answer2 {
+        return true;
+    }
+    if answer == 0 {
+        return false;
+    }
+    !check::same(labels, labels2)
+}
+
+// Two searches find different answers.
+pub fn changed(found: Found, found2: Found) -> bool {
+    let labels = found.labels;
+    let labels2 = found2.labels;
+    other(found.answer, &labels, found2.answer, &labels2)
+}

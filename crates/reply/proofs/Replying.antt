@@ -7,6 +7,7 @@ use mathlib.Core.Option.{Option, none, some}
 use native.Mathlib.Omega.{arith}
 use lib.Dec.{eqb, leb}
 use lib.ListN.{length, take, drop, length-append}
+use lib.Seq.{length-take-le}
 use borrow.Author.Tests.{eq-eqb, ne-eqb, eqb-true, eqb-false, leb-true, le-leb, lt-leb}
 use Rattle.labels.specs.Labels.{at, heard}
 use Rattle.labels.proofs.Heard.{heard-le}
@@ -21,7 +22,7 @@ use Rattle.table.proofs.Rivals.{best-plan, planned-passed}
 use Rattle.fleet_tape.specs.Form.{Fleet, fleetOf}
 use Rattle.fleet_tape.specs.Reading.{Reading, reading, refused, taken, judged, hasPlaces, fleetRead}
 use Rattle.reply.specs.Lines.{heardWord, refusedWord, wordLine, rowLine, rowLines, printed}
-use Rattle.reply.specs.Replied.{places, tableOf, refusedWith, readAnswer, tapeAnswer, Replied, replying, repliedWith, replied}
+use Rattle.reply.specs.Replied.{places, tableOf, refusedWith, readAnswer, tapeAnswer, Replied, replying, repliedWith, replied, Within}
 use Rattle.reply.specs.Put.{Put, Labels, answerOf, Answerable, Lent}
 use Rattle.reply.proofs.Putting.{put-front, word-length, row-length, number-most}
 
@@ -189,13 +190,16 @@ module _ (tape out space : List ℕ) where
   tape-read h k = sym (rw (le-leb 400 (length out) h, le-leb (length tape) 400 k) refl)
 
   -- the length returned lies within the output
-  pub replied-within : {r : ℕ} {after space′ : List ℕ} → replying r after space′ ≡ replied tape out space → r ≤ length after
+  pub replied-within : {r : ℕ} {after space′ : List ℕ} → replying r after space′ ≡ replied tape out space → Within r after
   unfolding replied repliedWith
-  replied-within e = subst (λ (x : Replied). x .written ≤ length (x .out)) (sym e) (go (leb 400 (length out)))
+  replied-within {r} {after} e = (h, sym (length-take-le r after h))
     where
-      text : List ℕ
-      text = printed (tapeAnswer tape (length space))
+      answer : Planned
+      answer = tapeAnswer tape (length space)
 
-      go : (b : Bool) → cond b (repliedWith (tapeAnswer tape (length space)) out space) (replying 0 out space) .written ≤ length (cond b (repliedWith (tapeAnswer tape (length space)) out space) (replying 0 out space) .out)
-      go true = omega (arith, length-append text (drop (length text) out))
+      go : (b : Bool) → cond b (repliedWith answer out space) (replying 0 out space) .written ≤ length (cond b (repliedWith answer out space) (replying 0 out space) .out)
+      go true = omega (arith, length-append (printed answer) (drop (length (printed answer)) out))
       go false = omega arith
+
+      h : r ≤ length after
+      h = subst (λ (x : Replied). x .written ≤ length (x .out)) (sym e) (go (leb 400 (length out)))

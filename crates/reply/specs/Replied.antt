@@ -1,5 +1,6 @@
 -- The right answer of a call of `reply`, whole: how many bytes it writes, and what the output and the working space then hold, on every input.
-use Prim.Native.Nat.{ℕ}
+use Prim.Native.Nat.{ℕ, _≤_}
+use mathlib.Core.Path.{_≡_}
 use mathlib.Core.Bool.{cond}
 use mathlib.Core.List.{List, [], _++_}
 use lib.Dec.{leb, eqb}
@@ -60,3 +61,7 @@ unfoldable pub replied : List ℕ → List ℕ → List ℕ → Replied
 unfolding tapeAnswer repliedWith
 replied tape out space =
     cond (leb 400 (length out)) (repliedWith (tapeAnswer tape (length space)) out space) (replying 0 out space)
+
+-- so many bytes stand at the front of the output. The second part follows from the first; both are stated so that a caller that lends `&out[..n]` needs no proof
+abbrev pub Within : ℕ → List ℕ → Type 0
+Within n out = (n ≤ length out) × (n ≡ length (take n out))

@@ -1,13 +1,13 @@
 // From the bytes of a fleet tape to the bytes that `hubplan` prints.
 ghost use mathlib.Core.Path.{_≡_};
-ghost use Prim.Native.Nat.{_+_, _≤_, _<_};
+ghost use Prim.Native.Nat.{_+_, _<_};
 ghost use lib.ListN.{length};
 ghost use Rattle.table.specs.Refusals.{numberOf};
 ghost use Rattle.table.specs.Tables.{table};
 ghost use Rattle.table.specs.Planned.{planned};
 ghost use Rattle.fleet_tape.specs.Reading.{fleetRead};
 ghost use Rattle.reply.specs.Lines.{decimal, wordLine, rowLine, rowLines, refusedWord, printed};
-ghost use Rattle.reply.specs.Replied.{places, readAnswer, replying, repliedWith, replied};
+ghost use Rattle.reply.specs.Replied.{places, readAnswer, replying, repliedWith, replied, Within};
 ghost use Rattle.reply.specs.Put.{Put, Room, NumberRoom, RowRoom, LabelsRoom, WordRoom, answerOf, Answerable, Lent};
 use table::Answer;
 use table::Refusal;
@@ -179,7 +179,7 @@ fn reply_lent(
 // definition `replied` yields, on every input. That the length lies within the output follows; it is said so that a caller can lend `&out[..n]`.
 pub fn reply(tape: &[u8], out: &mut [u8], space: &mut [u8]) -> usize
     ensures replied { λ r. ⌜ replying r (now (out .exit)) (now (space .exit)) ≡ replied (now (tape .entry)) (now (out .entry)) (now (space .entry)) ⌝ }
-    ensures within { λ r. ⌜ r ≤ length (now (out .exit)) ⌝ }
+    ensures within { λ r. ⌜ Within r (now (out .exit)) ⌝ }
 {
     if out.len() < OUT_BYTES {
         return 0;

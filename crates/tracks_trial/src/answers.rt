@@ -83,24 +83,6 @@ pub fn found(t: Table, permissions: &[u8; 8]) -> Found {
     brute_force::best_assignment(t.circle, t.rows, &starts, &lengths, permissions)
 }
 
-// Two answers, or their labels where there is an assignment, are not the same.
-fn other(answer: u8, labels: &[u8; 8], answer2: u8, labels2: &[u8; 8]) -> bool {
-    if answer != answer2 {
-        return true;
-    }
-    if answer == 0 {
-        return false;
-    }
-    !check::same(labels, labels2)
-}
-
-// The brute force finds another best assignment under other permissions.
-pub fn changed(found: Found, free: Found) -> bool {
-    let labels = found.labels;
-    let labels2 = free.labels;
-    other(found.answer, &labels, free.answer, &labels2)
-}
-
 // The assignment or the count of `tracks` is not what the brute force finds.
 pub fn differ(found: Found, assigned: Assignment, counted: Assignment) -> bool {
     if found.answer != counted.answer {
@@ -108,5 +90,5 @@ pub fn differ(found: Found, assigned: Assignment, counted: Assignment) -> bool {
     }
     let labels = found.labels;
     let labels2 = assigned.labels;
-    other(found.answer, &labels, assigned.answer, &labels2)
+    brute_force::plans::other(found.answer, &labels, assigned.answer, &labels2)
 }

@@ -4,6 +4,10 @@ mod answers;
 mod rows;
 mod table;
 
+use brute_force::plans::changed;
+use trial_report::more;
+use trial_report::print;
+
 const TABLES: u32 = 5000;
 
 // Of how many tables each fact holds, and the state of the sequence.
@@ -31,12 +35,12 @@ fn compared(tally: Tally) -> Tally {
         answers::assigned(t, true),
     );
     Tally {
-        none: rows::more(tally.none, found.answer == 0),
-        crossing: rows::more(tally.crossing, 1 < heard.crossing),
-        whole: rows::more(tally.whole, 0 < heard.whole),
-        tied: rows::more(tally.tied, 1 < found.best),
-        changed: rows::more(tally.changed, answers::changed(found, free)),
-        differ: rows::more(tally.differ, differ),
+        none: more(tally.none, found.answer == 0),
+        crossing: more(tally.crossing, 1 < heard.crossing),
+        whole: more(tally.whole, 0 < heard.whole),
+        tied: more(tally.tied, 1 < found.best),
+        changed: more(tally.changed, changed(found, free)),
+        differ: more(tally.differ, differ),
         state: t.state,
     }
 }
@@ -56,12 +60,6 @@ fn compare() -> Tally {
         tally = compared(tally);
     }
     tally
-}
-
-fn print(words: &[u8], n: u32) {
-    io::write_all(1, words);
-    io::print_decimal(1, n as u64);
-    io::write_all(1, b"\n");
 }
 
 fn main() {

@@ -1,18 +1,11 @@
-// What is counted: tables, and the heard rows of one.
+// What is counted of the heard rows of a table.
 use crate::table::Table;
+use trial_report::more;
 
 // How many of the rows that are heard cross tick 0, and how many take the whole circle.
 pub struct Counts {
     pub crossing: u32,
     pub whole: u32,
-}
-
-pub fn more(count: u32, fact: bool) -> u32 {
-    if fact {
-        std::num::wrapping_add_u32(count, 1)
-    } else {
-        count
-    }
 }
 
 // An arc goes on from the last tick of the circle to tick 0.

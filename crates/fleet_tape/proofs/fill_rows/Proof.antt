@@ -4,7 +4,7 @@ use Prim.Native.Nat.{ℕ, _+_, _-_, _≤_, _<_}
 use mathlib.Core.Path.{_≡_, refl, sym, ap, _∙_}
 use mathlib.Core.List.{List}
 use native.Mathlib.Omega.{arith}
-use lib.ListN.{length, drop, length-set}
+use lib.ListN.{drop, length-set}
 use lib.Seq.{sets}
 use Rattle.fleet_tape.specs.declared.Scanned.the-variants.{Count}
 use Rattle.fleet_tape.specs.Fleet.{startsOf, endsOf, marksOf}

@@ -1,0 +1,267 @@
+// Calls of the planner and of the plan tape writer, each judged whole: the refusal's number, the count, every place of the list that is written,
+// every byte of the working space.
+ghost use Prim.Native.Nat.{_≤_};
+use table::Answer;
+use window::Kind;
+
+// What labels, working space and tape buffer hold before a call.
+pub const BEFORE: u8 = 90;
+
+// The working space that a case is lent, if it does not say otherwise: 100 bytes more than the planner needs.
+pub const LENT_BYTES: usize = 16484;
+
+fn at_most(n: usize, most: usize) -> usize
+    ensures { λ r. ⌜ r ≤ most ⌝ }
+{
+    if n <= most { n } else { most }
+}
+
+// The first places of a list; all if there are fewer.
+pub fn first_words(list: &[u16], n: usize) -> &[u16] {
+    if n <= list.len() {
+        return &list[..n];
+    }
+    list
+}
+
+pub fn first_bytes(list: &[u8], n: usize) -> &[u8] {
+    if n <= list.len() {
+        return &list[..n];
+    }
+    list
+}
+
+// Whether a call reports the number and the count.
+fn is_answer(answer: Answer, number: u8, count: usize) -> bool {
+    let refusal = answer.refusal;
+    if table::number(refusal) != number {
+        return false;
+    }
+    answer.count == count
+}
+
+// What is to stand at a place of a list whose first places are written.
+fn written_at(first: &[u8], i: usize) -> u8 {
+    if i < first.len() { first[i] } else { BEFORE }
+}
+
+// Whether the first places of a list are written as they are to be and the others are as they were.
+pub fn is_written(list: &[u8], first: &[u8]) -> bool {
+    let mut i = 0;
+    while i < list.len() {
+        if list[i] != written_at(first, i) {
+            return false;
+        }
+        i += 1;
+    }
+    true
+}
+
+// What is to stand at a place of the working space: a call that is accepted clears its first bytes, and so does refusal 8.
+fn space_at(number: u8, i: usize) -> u8 {
+    if 16384 <= i {
+        return BEFORE;
+    }
+    match number {
+        0 => 0,
+        8 => 0,
+        _ => BEFORE,
+    }
+}
+
+// Whether the working space is as a call with that number is to leave it.
+pub fn is_left(space: &[u8], number: u8) -> bool {
+    let mut i = 0;
+    while i < space.len() {
+        if space[i] != space_at(number, i) {
+            return false;
+        }
+        i += 1;
+    }
+    true
+}
+
+// How many labels are 1 or 2.
+fn heard(labels: &[u8]) -> usize {
+    let mut n: usize = 0;
+    let mut i = 0;
+    while i < labels.len() {
+        n = with_label(n, labels[i]);
+        i += 1;
+    }
+    n
+}
+
+fn with_label(n: usize, label: u8) -> usize {
+    match label {
+        1 => std::num::wrapping_add_usize(n, 1),
+        2 => std::num::wrapping_add_usize(n, 1),
+        _ => n,
+    }
+}
+
+// The planner's answer if it is lent so many of the places for labels and so many of the bytes of working space.
+fn plan(
+    kind: Kind,
+    ticks: u16,
+    hours: [[u16; 2]; 2],
+    starts: &[u16],
+    ends: &[u16],
+    marks: &[u8],
+    labels: &mut [u8],
+    places: usize,
+    space: &mut [u8],
+    bytes: usize,
+) -> Answer {
+    let n = at_most(places, labels.len());
+    let m = at_most(bytes, space.len());
+    planner::plan(
+        kind,
+        ticks,
+        hours,
+        starts,
+        ends,
+        marks,
+        &mut labels[..n],
+        &mut space[..m],
+    )
+}
+
+// Whether the planner, lent so many places for labels and so many bytes of working space, answers with the number and the labels; none on a refusal.
+pub fn is_planned(
+    kind: Kind,
+    ticks: u16,
+    hours: [[u16; 2]; 2],
+    starts: &[u16],
+    ends: &[u16],
+    marks: &[u8],
+    places: usize,
+    bytes: usize,
+    number: u8,
+    labels: &[u8],
+) -> bool {
+    let mut list = [BEFORE; 66];
+    let mut space = [BEFORE; LENT_BYTES];
+    let answer = plan(
+        kind,
+        ticks,
+        hours,
+        starts,
+        ends,
+        marks,
+        &mut list,
+        places,
+        &mut space,
+        bytes,
+    );
+    if !is_answer(answer, number, heard(labels)) {
+        return false;
+    }
+    if !is_written(&list, labels) {
+        return false;
+    }
+    is_left(&space, number)
+}
+
+// The same of a round, with a place for each row's label.
+pub fn in_round(
+    ticks: u16,
+    starts: &[u16],
+    ends: &[u16],
+    marks: &[u8],
+    number: u8,
+    labels: &[u8],
+) -> bool {
+    is_planned(
+        Kind::Round,
+        ticks,
+        [[0, 0], [0, 0]],
+        starts,
+        ends,
+        marks,
+        starts.len(),
+        LENT_BYTES,
+        number,
+        labels,
+    )
+}
+
+// The same of a run.
+pub fn in_run(
+    ticks: u16,
+    hours: [[u16; 2]; 2],
+    starts: &[u16],
+    ends: &[u16],
+    marks: &[u8],
+    number: u8,
+    labels: &[u8],
+) -> bool {
+    is_planned(
+        Kind::Run,
+        ticks,
+        hours,
+        starts,
+        ends,
+        marks,
+        starts.len(),
+        LENT_BYTES,
+        number,
+        labels,
+    )
+}
+
+// The plan tape writer's answer if it is lent so many of the bytes for the tape.
+fn write(
+    kind: Kind,
+    ticks: u16,
+    hours: [[u16; 2]; 2],
+    starts: &[u16],
+    ends: &[u16],
+    marks: &[u8],
+    labels: &[u8],
+    tape: &mut [u8],
+    bytes: usize,
+) -> Answer {
+    let n = at_most(bytes, tape.len());
+    plan_tape::write_plan(
+        kind,
+        ticks,
+        hours,
+        starts,
+        ends,
+        marks,
+        labels,
+        &mut tape[..n],
+    )
+}
+
+// Whether the plan tape writer, lent so many bytes, answers with the number and the tape; none on a refusal.
+pub fn is_taped(
+    kind: Kind,
+    ticks: u16,
+    hours: [[u16; 2]; 2],
+    starts: &[u16],
+    ends: &[u16],
+    marks: &[u8],
+    labels: &[u8],
+    bytes: usize,
+    number: u8,
+    tape: &[u8],
+) -> bool {
+    let mut buffer = [BEFORE; 400];
+    let answer = write(
+        kind,
+        ticks,
+        hours,
+        starts,
+        ends,
+        marks,
+        labels,
+        &mut buffer,
+        bytes,
+    );
+    if !is_answer(answer, number, tape.len()) {
+        return false;
+    }
+    is_written(&buffer, tape)
+}

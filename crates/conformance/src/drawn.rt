@@ -1,0 +1,132 @@
+// Small tables drawn from a pseudo-random sequence: short days, so that much overlaps, touches and is equal.
+use brute_force::random;
+
+// A run or a round; hours are p1, q1, p2, q2.
+pub struct Table {
+    pub run: bool,
+    pub ticks: u16,
+    pub hours: [u16; 4],
+    pub rows: usize,
+    pub starts: [u16; 8],
+    pub ends: [u16; 8],
+    pub marks: [u8; 8],
+    // the sequence's state after the table
+    pub state: u64,
+}
+
+// A number below the limit; 0 if the limit is 0.
+fn below(state: u64, limit: u16) -> u16 {
+    if limit == 0 {
+        return 0;
+    }
+    random::below(state, limit)
+}
+
+// One of the `count` numbers from `low` on.
+fn from(state: u64, low: u16, count: u16) -> u16 {
+    std::num::wrapping_add_u16(low, below(state, count))
+}
+
+fn draw_starts(list: &mut [u16; 8], ticks: u16, state: u64) -> u64 {
+    let mut s = state;
+    for i in 0..8 {
+        s = random::next(s);
+        list[i] = below(s, ticks);
+    }
+    s
+}
+
+// The end of a window of so many ticks: in a run cut off at R, in a round going on from R-1 to 0.
+fn end_of(run: bool, ticks: u16, start: u16, length: u16) -> u16 {
+    let end = std::num::wrapping_add_u16(start, length);
+    if end < ticks {
+        return end;
+    }
+    if run {
+        return ticks;
+    }
+    std::num::wrapping_sub_u16(end, ticks)
+}
+
+fn draw_ends(
+    list: &mut [u16; 8],
+    run: bool,
+    ticks: u16,
+    starts: &[u16; 8],
+    longest: u16,
+    state: u64,
+) -> u64 {
+    let mut s = state;
+    for i in 0..8 {
+        s = random::next(s);
+        list[i] = end_of(run, ticks, starts[i], from(s, 1, longest));
+    }
+    s
+}
+
+// One row in four is must.
+fn mark(state: u64) -> u8 {
+    if below(state, 4) == 0 { 1 } else { 0 }
+}
+
+fn draw_marks(list: &mut [u8; 8], state: u64) -> u64 {
+    let mut s = state;
+    for i in 0..8 {
+        s = random::next(s);
+        list[i] = mark(s);
+    }
+    s
+}
+
+// When a receiver opens, in the first part of the day, and when it closes: up to as much before the day's end, or at once for one receiver in 16.
+fn opening(ticks: u16, state: u64) -> u16 {
+    below(state, ticks / 3 + 1)
+}
+
+fn closing(ticks: u16, opening: u16, state: u64) -> u16 {
+    let early = below(state, ticks / 3 + 1);
+    if below(random::next(state), 16) == 0 {
+        return opening;
+    }
+    std::num::wrapping_sub_u16(ticks, early)
+}
+
+fn draw_hours(ticks: u16, state: u64) -> [u16; 4] {
+    let a = random::next(state);
+    let b = random::next(a);
+    let c = random::next(b);
+    let d = random::next(c);
+    let p1 = opening(ticks, a);
+    let p2 = opening(ticks, b);
+    let q1 = closing(ticks, p1, c);
+    let q2 = closing(ticks, p2, d);
+    [p1, q1, p2, q2]
+}
+
+// A table of at most 7 rows on 2 to 24 ticks, a run one time in three, the longest of its windows drawn first, so that windows of all lengths come up.
+pub fn draw(state: u64) -> Table {
+    let a = random::next(state);
+    let run = below(a, 3) == 0;
+    let b = random::next(a);
+    let ticks = from(b, 2, 23);
+    let c = random::next(b);
+    let rows = below(c, 8) as usize;
+    let d = random::next(c);
+    let longest = from(d, 1, std::num::wrapping_sub_u16(ticks, 1));
+    let mut starts = [0u16; 8];
+    let e = draw_starts(&mut starts, ticks, d);
+    let mut ends = [0u16; 8];
+    let f = draw_ends(&mut ends, run, ticks, &starts, longest, e);
+    let mut marks = [0u8; 8];
+    let g = draw_marks(&mut marks, f);
+    Table {
+        run,
+        ticks,
+        hours: draw_hours(ticks, g),
+        rows,
+        starts,
+        ends,
+        marks,
+        state: random::next(g),
+    }
+}

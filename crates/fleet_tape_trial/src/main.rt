@@ -1,0 +1,342 @@
+// Runs the fleet tape reader on tapes of the form and on tapes not of it, and prints how many answers differ from what they must be.
+mod held;
+mod made;
+
+use held::refused;
+use held::refused_with;
+use held::restated;
+use made::below;
+use made::byte_of;
+use made::front;
+use made::next;
+use made::put_byte;
+use made::tape_of;
+
+// How many tapes were read, how many of them are of the form, and how many answers differ.
+struct Tally {
+    read: u64,
+    of_form: u64,
+    differ: u64,
+}
+
+fn none() -> Tally {
+    Tally {
+        read: 0,
+        of_form: 0,
+        differ: 0,
+    }
+}
+
+fn counted(count: u64, seen: bool) -> u64 {
+    if seen {
+        return std::num::wrapping_add_u64(count, 1);
+    }
+    count
+}
+
+fn one_more(tally: Tally, of_form: bool, right: bool) -> Tally {
+    Tally {
+        read: counted(tally.read, true),
+        of_form: counted(tally.of_form, of_form),
+        differ: counted(tally.differ, !right),
+    }
+}
+
+fn both(a: Tally, b: Tally) -> Tally {
+    Tally {
+        read: std::num::wrapping_add_u64(a.read, b.read),
+        of_form: std::num::wrapping_add_u64(a.of_form, b.of_form),
+        differ: std::num::wrapping_add_u64(a.differ, b.differ),
+    }
+}
+
+// ---- paper 01's session tape
+
+fn session() -> [u8; 24] {
+    [
+        0x10,
+        0x00,
+        0x64,
+        0x40,
+        0x00,
+        0x0A,
+        0x00,
+        0x1E,
+        0x40,
+        0x00,
+        0x14,
+        0x00,
+        0x28,
+        0x40,
+        0x00,
+        0x19,
+        0x00,
+        0x32,
+        0x40,
+        0x00,
+        0x5A,
+        0x00,
+        0x0A,
+        0x7F,
+    ]
+}
+
+fn read_session() -> Tally {
+    let tape = session();
+    one_more(none(), true, restated(&tape, 4))
+}
+
+fn read_cut(tape: &[u8]) -> Tally {
+    let mut tally = none();
+    let mut n: usize = 0;
+    while n < tape.len() {
+        tally = one_more(tally, false, refused(front(tape, n), 11));
+        n += 1;
+    }
+    tally
+}
+
+fn read_truncations() -> Tally {
+    let tape = session();
+    read_cut(&tape)
+}
+
+// ---- tapes not of the form
+
+fn read_faults() -> Tally {
+    let a = one_more(none(), false, refused(b"\x11\x00\x64\x7f", 11));
+    let b = one_more(
+        a,
+        false,
+        refused(b"\x10\x00\x64\x50\x00\x00\x00\x32\x00\x28\x00\x64\x7f", 11),
+    );
+    let c = one_more(b, false, refused(b"\x10\x00\x64\x7f\x7f", 11));
+    one_more(c, false, refused(b"", 11))
+}
+
+// ---- lists of 63 or 65 places: 1, whatever the tape
+
+fn read_places(tape: &[u8], of_form: bool, n: usize) -> Tally {
+    let a = one_more(none(), of_form, refused_with(tape, 1, n, 64, 64));
+    let b = one_more(a, of_form, refused_with(tape, 1, 64, n, 64));
+    let c = one_more(b, of_form, refused_with(tape, 1, 64, 64, n));
+    one_more(c, of_form, refused_with(tape, 1, n, n, n))
+}
+
+fn read_other_places() -> Tally {
+    let tape = session();
+    let a = both(read_places(&tape, true, 63), read_places(&tape, true, 65));
+    let b = both(read_places(b"\x10", false, 63), read_places(b"", false, 65));
+    both(a, b)
+}
+
+// ---- 64 and 65 rows
+
+// A tape of so many rows, with this last byte, lent with one byte more than it has and then so many fewer.
+fn read_end(run: bool, rows: usize, stop: u8, fewer: usize, refusal: u8) -> bool {
+    let mut tape = [0u8; 400];
+    let n = tape_of(run, rows, 77, &mut tape);
+    put_byte(&mut tape, std::num::wrapping_sub_usize(n, 1), stop);
+    let more = std::num::wrapping_add_usize(n, 1);
+    let part = front(&tape, std::num::wrapping_sub_usize(more, fewer));
+    if refusal == 0 {
+        return restated(part, rows);
+    }
+    refused(part, refusal)
+}
+
+// Whole, without STOP, with a byte after STOP, and with another byte for STOP.
+fn read_ends(run: bool, rows: usize, refusal: u8) -> Tally {
+    let a = one_more(none(), true, read_end(run, rows, 0x7F, 1, refusal));
+    let b = one_more(a, false, read_end(run, rows, 0x7F, 2, 11));
+    let c = one_more(b, false, read_end(run, rows, 0x7F, 0, 11));
+    one_more(c, false, read_end(run, rows, 0x30, 1, 11))
+}
+
+// ---- a byte changed
+
+fn is_row(command: u8) -> bool {
+    if command == 0x40 {
+        return true;
+    }
+    command == 0x41
+}
+
+// Whether a tape is still of the form after the byte at a place has changed: an operand may be any byte, a command only WINDOW for MUST and MUST for WINDOW.
+fn stays_of_form(run: bool, at: usize, before: u8, after: u8) -> bool {
+    if before == after {
+        return true;
+    }
+    let body = if run { 12 } else { 3 };
+    if at < body {
+        if at == 0 {
+            return false;
+        }
+        return at != 3;
+    }
+    if (at - body) % 5 != 0 {
+        return true;
+    }
+    if !is_row(before) {
+        return false;
+    }
+    is_row(after)
+}
+
+// A tape of which one byte was changed, and back again.
+struct Changed {
+    of_form: bool,
+    right: bool,
+}
+
+fn answer_right(tape: &[u8], of_form: bool, rows: usize) -> bool {
+    if of_form {
+        return restated(tape, rows);
+    }
+    refused(tape, 11)
+}
+
+fn read_changed(run: bool, rows: usize, tape: &mut [u8], n: usize, at: usize, byte: u8) -> Changed {
+    if tape.len() <= at {
+        return Changed {
+            of_form: false,
+            right: false,
+        };
+    }
+    let before = tape[at];
+    tape[at] = byte;
+    let of_form = stays_of_form(run, at, before, byte);
+    let right = answer_right(front(tape, n), of_form, rows);
+    tape[at] = before;
+    Changed { of_form, right }
+}
+
+fn read_changes_at(run: bool, tape: &mut [u8], n: usize, at: usize) -> Tally {
+    let mut tally = none();
+    let mut byte: u16 = 0;
+    while byte < 256 {
+        let changed = read_changed(run, 4, tape, n, at, byte as u8);
+        tally = one_more(tally, changed.of_form, changed.right);
+        byte += 1;
+    }
+    tally
+}
+
+fn read_changes_in(run: bool, tape: &mut [u8], n: usize) -> Tally {
+    let mut tally = none();
+    let mut at: usize = 0;
+    while at < n {
+        tally = both(tally, read_changes_at(run, tape, n, at));
+        at += 1;
+    }
+    tally
+}
+
+// A tape of four rows, with each byte changed to each value.
+fn read_changes(run: bool) -> Tally {
+    let mut tape = [0u8; 400];
+    let n = tape_of(run, 4, 5, &mut tape);
+    read_changes_in(run, &mut tape, n)
+}
+
+// ---- random tapes
+
+// The rows are 0 to 64 in turn.
+fn tape_at(run: bool, turn: u64, tape: &mut [u8]) -> usize {
+    tape_of(run, rows_at(turn), next(next(turn)), tape)
+}
+
+fn rows_at(turn: u64) -> usize {
+    (turn % 65) as usize
+}
+
+fn read_whole(run: bool, turn: u64) -> bool {
+    let mut tape = [0u8; 400];
+    let n = tape_at(run, turn, &mut tape);
+    restated(front(&tape, n), rows_at(turn))
+}
+
+fn read_damaged(run: bool, turn: u64) -> Changed {
+    let mut tape = [0u8; 400];
+    let n = tape_at(run, turn, &mut tape);
+    let seed = next(next(next(turn)));
+    let at = below(seed, n as u64) as usize;
+    read_changed(run, rows_at(turn), &mut tape, n, at, byte_of(next(seed)))
+}
+
+fn read_random(run: bool, turns: u64) -> Tally {
+    let mut tally = none();
+    let mut turn: u64 = 0;
+    while turn < turns {
+        tally = one_more(tally, true, read_whole(run, turn));
+        turn += 1;
+    }
+    tally
+}
+
+fn read_random_damaged(run: bool, turns: u64) -> Tally {
+    let mut tally = none();
+    let mut turn: u64 = 0;
+    while turn < turns {
+        let changed = read_damaged(run, turn);
+        tally = one_more(tally, changed.of_form, changed.right);
+        turn += 1;
+    }
+    tally
+}
+
+// ---- what is printed
+
+fn print_line(name: &[u8], tally: Tally) {
+    io::write_all(1, name);
+    io::print_decimal(1, tally.read);
+    io::write_all(1, b" read, ");
+    io::print_decimal(1, tally.of_form);
+    io::write_all(1, b" of the form, ");
+    io::print_decimal(1, tally.differ);
+    io::write_all(1, b" differ\n");
+}
+
+fn print_fixed() {
+    print_line(b"session tape: ", read_session());
+    print_line(b"its truncations: ", read_truncations());
+    print_line(
+        b"RUN without HOURS, ROUND with HOURS, a byte after STOP, nothing: ",
+        read_faults(),
+    );
+    print_line(b"lists of 63 and 65 places: ", read_other_places());
+}
+
+fn print_rows() {
+    print_line(
+        b"64 rows: ",
+        both(read_ends(false, 64, 0), read_ends(true, 64, 0)),
+    );
+    print_line(
+        b"65 rows: ",
+        both(read_ends(false, 65, 2), read_ends(true, 65, 2)),
+    );
+}
+
+fn print_random() {
+    print_line(
+        b"each byte changed: ",
+        both(read_changes(false), read_changes(true)),
+    );
+    print_line(b"random rounds: ", read_random(false, 2600));
+    print_line(b"random runs: ", read_random(true, 2600));
+    print_line(
+        b"random rounds, a byte changed: ",
+        read_random_damaged(false, 2600),
+    );
+    print_line(
+        b"random runs, a byte changed: ",
+        read_random_damaged(true, 2600),
+    );
+}
+
+fn main() {
+    print_fixed();
+    print_rows();
+    print_random();
+}

@@ -1,0 +1,246 @@
+// The hub planner's functions for C and Rust. A round and a run have a function each, so that no bad kind can be passed. A slice is handed over as its address and
+// its length; lists that are lent to one call must not overlap each other. No function has a `requires`: each answers every input.
+ghost use mathlib.Core.Path.{_≡_};
+ghost use lib.ListN.{length};
+ghost use Rattle.window.specs.declared.Kind.the-variants.{Round, Run};
+ghost use Rattle.table.specs.Tables.{table};
+ghost use Rattle.table.specs.Planned.{planned, spaceAfter};
+ghost use Rattle.plan_tape.specs.Written.{written};
+ghost use Rattle.fleet_tape.specs.Reading.{fleetRead};
+ghost use Rattle.reply.specs.Replied.{replying, replied};
+ghost use Rattle.hub_c.specs.Handed.{handed, handedReport, isRun, hoursFrom, noHours};
+use fleet_tape::Report;
+use table::Answer;
+use window::Kind;
+
+// What a call reports: the refusal's number in paper 01, 0 for accepted, and the count, 0 on a refusal.
+#[repr(C)]
+pub struct HubAnswer {
+    pub refusal: u8,
+    pub count: usize,
+}
+
+// What the fleet tape reader reports: the refusal's number, whether the tape is of a run, R, the open hours (all 0 in a round) and how many rows there are.
+#[repr(C)]
+pub struct HubReport {
+    pub refusal: u8,
+    pub run: bool,
+    pub ticks: u16,
+    pub p1: u16,
+    pub q1: u16,
+    pub p2: u16,
+    pub q2: u16,
+    pub rows: usize,
+}
+
+// An answer by its numbers.
+fn hand_over(answer: Answer) -> HubAnswer
+    ensures { λ r. ⌜ r ≡ handed answer ⌝ }
+{
+    let refusal = answer.refusal;
+    HubAnswer {
+        refusal: table::number(refusal),
+        count: answer.count,
+    }
+}
+
+// Plans a round or a run.
+fn plan(
+    kind: Kind,
+    ticks: u16,
+    hours: [[u16; 2]; 2],
+    starts: &[u16],
+    ends: &[u16],
+    marks: &[u8],
+    labels: &mut [u8],
+    space: &mut [u8],
+) -> HubAnswer
+    ensures answer { λ r. ⌜ r ≡ handed (planned (table kind ticks hours (now (starts .entry)) (now (ends .entry)) (now (marks .entry))) (now (labels .entry)) (length (now (space .entry))) .answer) ⌝ }
+    ensures labels { λ r. ⌜ now (labels .exit) ≡ planned (table kind ticks hours (now (starts .entry)) (now (ends .entry)) (now (marks .entry))) (now (labels .entry)) (length (now (space .entry))) .labels ⌝ }
+    ensures space { λ r. ⌜ now (space .exit) ≡ spaceAfter (planned (table kind ticks hours (now (starts .entry)) (now (ends .entry)) (now (marks .entry))) (now (labels .entry)) (length (now (space .entry))) .answer .refusal) (now (space .entry)) ⌝ }
+{
+    let answer = planner::plan(kind, ticks, hours, starts, ends, marks, labels, space);
+    hand_over(answer)
+}
+
+// Plans a round.
+#[no_mangle]
+pub extern "C" fn hub_plan_round(
+    ticks: u16,
+    starts: &[u16],
+    ends: &[u16],
+    marks: &[u8],
+    labels: &mut [u8],
+    space: &mut [u8],
+) -> HubAnswer
+    ensures answer { λ r. ⌜ r ≡ handed (planned (table Round ticks noHours (now (starts .entry)) (now (ends .entry)) (now (marks .entry))) (now (labels .entry)) (length (now (space .entry))) .answer) ⌝ }
+    ensures labels { λ r. ⌜ now (labels .exit) ≡ planned (table Round ticks noHours (now (starts .entry)) (now (ends .entry)) (now (marks .entry))) (now (labels .entry)) (length (now (space .entry))) .labels ⌝ }
+    ensures space { λ r. ⌜ now (space .exit) ≡ spaceAfter (planned (table Round ticks noHours (now (starts .entry)) (now (ends .entry)) (now (marks .entry))) (now (labels .entry)) (length (now (space .entry))) .answer .refusal) (now (space .entry)) ⌝ }
+{
+    plan(
+        Kind::Round,
+        ticks,
+        [[0, 0], [0, 0]],
+        starts,
+        ends,
+        marks,
+        labels,
+        space,
+    )
+}
+
+// Plans a run in which receiver 1 is open from p1 to q1 and receiver 2 from p2 to q2.
+#[no_mangle]
+pub extern "C" fn hub_plan_run(
+    ticks: u16,
+    p1: u16,
+    q1: u16,
+    p2: u16,
+    q2: u16,
+    starts: &[u16],
+    ends: &[u16],
+    marks: &[u8],
+    labels: &mut [u8],
+    space: &mut [u8],
+) -> HubAnswer
+    ensures answer { λ r. ⌜ r ≡ handed (planned (table Run ticks (hoursFrom p1 q1 p2 q2) (now (starts .entry)) (now (ends .entry)) (now (marks .entry))) (now (labels .entry)) (length (now (space .entry))) .answer) ⌝ }
+    ensures labels { λ r. ⌜ now (labels .exit) ≡ planned (table Run ticks (hoursFrom p1 q1 p2 q2) (now (starts .entry)) (now (ends .entry)) (now (marks .entry))) (now (labels .entry)) (length (now (space .entry))) .labels ⌝ }
+    ensures space { λ r. ⌜ now (space .exit) ≡ spaceAfter (planned (table Run ticks (hoursFrom p1 q1 p2 q2) (now (starts .entry)) (now (ends .entry)) (now (marks .entry))) (now (labels .entry)) (length (now (space .entry))) .answer .refusal) (now (space .entry)) ⌝ }
+{
+    plan(
+        Kind::Run,
+        ticks,
+        [[p1, q1], [p2, q2]],
+        starts,
+        ends,
+        marks,
+        labels,
+        space,
+    )
+}
+
+// Writes the plan tape of a round or a run and labels to the front of the buffer `tape`.
+fn write_plan(
+    kind: Kind,
+    ticks: u16,
+    hours: [[u16; 2]; 2],
+    starts: &[u16],
+    ends: &[u16],
+    marks: &[u8],
+    labels: &[u8],
+    tape: &mut [u8],
+) -> HubAnswer
+    ensures answer { λ r. ⌜ r ≡ handed (written (table kind ticks hours (now (starts .entry)) (now (ends .entry)) (now (marks .entry))) (now (labels .entry)) (now (tape .entry)) .answer) ⌝ }
+    ensures buffer { λ r. ⌜ now (tape .exit) ≡ written (table kind ticks hours (now (starts .entry)) (now (ends .entry)) (now (marks .entry))) (now (labels .entry)) (now (tape .entry)) .buffer ⌝ }
+{
+    let answer = plan_tape::write_plan(kind, ticks, hours, starts, ends, marks, labels, tape);
+    hand_over(answer)
+}
+
+// Writes the plan tape of a round and labels to the front of the buffer `tape`; its count is the tape's length.
+#[no_mangle]
+pub extern "C" fn hub_write_plan_round(
+    ticks: u16,
+    starts: &[u16],
+    ends: &[u16],
+    marks: &[u8],
+    labels: &[u8],
+    tape: &mut [u8],
+) -> HubAnswer
+    ensures answer { λ r. ⌜ r ≡ handed (written (table Round ticks noHours (now (starts .entry)) (now (ends .entry)) (now (marks .entry))) (now (labels .entry)) (now (tape .entry)) .answer) ⌝ }
+    ensures buffer { λ r. ⌜ now (tape .exit) ≡ written (table Round ticks noHours (now (starts .entry)) (now (ends .entry)) (now (marks .entry))) (now (labels .entry)) (now (tape .entry)) .buffer ⌝ }
+{
+    write_plan(
+        Kind::Round,
+        ticks,
+        [[0, 0], [0, 0]],
+        starts,
+        ends,
+        marks,
+        labels,
+        tape,
+    )
+}
+
+// Writes the plan tape of a run, with the hours of its receivers, and labels to the front of the buffer `tape`; its count is the tape's length.
+#[no_mangle]
+pub extern "C" fn hub_write_plan_run(
+    ticks: u16,
+    p1: u16,
+    q1: u16,
+    p2: u16,
+    q2: u16,
+    starts: &[u16],
+    ends: &[u16],
+    marks: &[u8],
+    labels: &[u8],
+    tape: &mut [u8],
+) -> HubAnswer
+    ensures answer { λ r. ⌜ r ≡ handed (written (table Run ticks (hoursFrom p1 q1 p2 q2) (now (starts .entry)) (now (ends .entry)) (now (marks .entry))) (now (labels .entry)) (now (tape .entry)) .answer) ⌝ }
+    ensures buffer { λ r. ⌜ now (tape .exit) ≡ written (table Run ticks (hoursFrom p1 q1 p2 q2) (now (starts .entry)) (now (ends .entry)) (now (marks .entry))) (now (labels .entry)) (now (tape .entry)) .buffer ⌝ }
+{
+    write_plan(
+        Kind::Run,
+        ticks,
+        [[p1, q1], [p2, q2]],
+        starts,
+        ends,
+        marks,
+        labels,
+        tape,
+    )
+}
+
+// Whether the kind is a run.
+fn is_run(kind: Kind) -> bool
+    ensures { λ r. ⌜ r ≡ isRun kind ⌝ }
+{
+    match kind {
+        Kind::Round => false,
+        Kind::Run => true,
+    }
+}
+
+// A report by its numbers.
+fn hand_over_report(report: Report) -> HubReport
+    ensures { λ r. ⌜ r ≡ handedReport report ⌝ }
+{
+    let refusal = report.refusal;
+    let kind = report.kind;
+    let hours = fleet_tape::hours_in(report);
+    HubReport {
+        refusal: table::number(refusal),
+        run: is_run(kind),
+        ticks: report.ticks,
+        p1: hours[0][0],
+        q1: hours[0][1],
+        p2: hours[1][0],
+        q2: hours[1][1],
+        rows: report.rows,
+    }
+}
+
+// Reads a fleet tape into lists of 64 places.
+#[no_mangle]
+pub extern "C" fn hub_read_fleet(
+    tape: &[u8],
+    starts: &mut [u16],
+    ends: &mut [u16],
+    marks: &mut [u8],
+) -> HubReport
+    ensures report { λ r. ⌜ r ≡ handedReport (fleetRead (now (tape .entry)) (now (starts .entry)) (now (ends .entry)) (now (marks .entry)) .report) ⌝ }
+    ensures starts { λ r. ⌜ now (starts .exit) ≡ fleetRead (now (tape .entry)) (now (starts .entry)) (now (ends .entry)) (now (marks .entry)) .starts ⌝ }
+    ensures ends { λ r. ⌜ now (ends .exit) ≡ fleetRead (now (tape .entry)) (now (starts .entry)) (now (ends .entry)) (now (marks .entry)) .ends ⌝ }
+    ensures marks { λ r. ⌜ now (marks .exit) ≡ fleetRead (now (tape .entry)) (now (starts .entry)) (now (ends .entry)) (now (marks .entry)) .marks ⌝ }
+{
+    let report = fleet_tape::read_fleet(tape, starts, ends, marks);
+    hand_over_report(report)
+}
+
+// Writes to the front of `out` what `hubplan` prints for a fleet tape, and returns how many bytes that is: 0, with nothing written, where `out` is shorter than 400 bytes.
+#[no_mangle]
+pub extern "C" fn hub_reply(tape: &[u8], out: &mut [u8], space: &mut [u8]) -> usize
+    ensures { λ r. ⌜ replying r (now (out .exit)) (now (space .exit)) ≡ replied (now (tape .entry)) (now (out .entry)) (now (space .entry)) ⌝ }
+{
+    reply::reply(tape, out, space)
+}

@@ -1,0 +1,48 @@
+// What the trial programs count and print: cases, and those for which a fact holds.
+
+// One more if the fact holds.
+pub fn more(count: u32, fact: bool) -> u32 {
+    if fact {
+        std::num::wrapping_add_u32(count, 1)
+    } else {
+        count
+    }
+}
+
+// A line of words and a number.
+pub fn print(words: &[u8], n: u32) {
+    io::write_all(1, words);
+    io::print_decimal(1, n as u64);
+    io::write_all(1, b"\n");
+}
+
+// The cases of a group that were run, and how many of them differ from what is right.
+pub struct Group {
+    pub cases: u32,
+    pub differ: u32,
+}
+
+pub fn no_cases() -> Group {
+    Group {
+        cases: 0,
+        differ: 0,
+    }
+}
+
+// One case more.
+pub fn with_case(group: Group, right: bool) -> Group {
+    Group {
+        cases: more(group.cases, true),
+        differ: more(group.differ, !right),
+    }
+}
+
+// A line for a group.
+pub fn print_group(words: &[u8], group: Group) {
+    io::write_all(1, words);
+    io::write_all(1, b": cases ");
+    io::print_decimal(1, group.cases as u64);
+    io::write_all(1, b", differ ");
+    io::print_decimal(1, group.differ as u64);
+    io::write_all(1, b"\n");
+}

@@ -1,0 +1,54 @@
+/* Paper 01's session in C: plans the round P2, prints the labels, then the bytes of the plan tape, then what hubplan prints for the fleet tape.
+ *
+ *   rt staticlib hub_c
+ *   gcc -std=c99 -Wall -Wextra -Werror -Iinclude examples/session.c target/staticlib/libhub_c.a -o target/session && target/session
+ */
+#include "hubplan.h"
+
+#include <stdio.h>
+
+#define ROWS 4
+
+static const uint16_t starts[ROWS] = {10, 20, 25, 90};
+static const uint16_t ends[ROWS] = {30, 40, 50, 10};
+static const uint8_t marks[ROWS] = {0, 0, 0, 0};
+static const uint16_t ticks = 100;
+
+static const uint8_t fleet[] = {0x10, 0x00, 0x64, 0x40, 0x00, 0x0A, 0x00, 0x1E, 0x40, 0x00, 0x14, 0x00,
+                                0x28, 0x40, 0x00, 0x19, 0x00, 0x32, 0x40, 0x00, 0x5A, 0x00, 0x0A, 0x7F};
+
+static uint8_t space[HUB_SPACE_BYTES];
+
+static int refused(const char *what, unsigned number)
+{
+    fprintf(stderr, "%s: refused %u\n", what, number);
+    return 1;
+}
+
+int main(void)
+{
+    uint8_t labels[ROWS] = {0};
+    struct hub_answer plan = hub_plan_round(ticks, starts, ROWS, ends, ROWS, marks, ROWS, labels, ROWS, space, sizeof space);
+    if (plan.refusal != HUB_ACCEPTED)
+        return refused("plan", plan.refusal);
+    printf("heard %zu, labels", plan.count);
+    for (size_t i = 0; i < ROWS; i++)
+        printf(" %u", (unsigned)labels[i]);
+
+    uint8_t tape[HUB_PLAN_TAPE_BYTES];
+    struct hub_answer written = hub_write_plan_round(ticks, starts, ROWS, ends, ROWS, marks, ROWS, labels, ROWS, tape, sizeof tape);
+    if (written.refusal != HUB_ACCEPTED)
+        return refused("plan tape", written.refusal);
+    printf("\nplan tape of %zu bytes", written.count);
+    for (size_t i = 0; i < written.count; i++)
+        printf(" %02X", (unsigned)tape[i]);
+
+    /* a buffer of one byte less is refused */
+    struct hub_answer too_short = hub_write_plan_round(ticks, starts, ROWS, ends, ROWS, marks, ROWS, labels, ROWS, tape, written.count - 1);
+    printf("\nbuffer of %zu bytes: refused %u\n", written.count - 1, (unsigned)too_short.refusal);
+
+    uint8_t text[HUB_REPLY_BYTES];
+    size_t length = hub_reply(fleet, sizeof fleet, text, sizeof text, space, sizeof space);
+    fwrite(text, 1, length, stdout);
+    return 0;
+}

@@ -1,0 +1,125 @@
+/* The hub planner for C. `rt staticlib hub_c` proves and writes the library, target/staticlib/libhub_c.a (x86-64 Linux); each function below is proved to meet the
+ * promise in its comment on every input (crates/hub_c; what the words mean is defined in the crates' specs/).
+ *
+ * What a caller owes, since C cannot say it:
+ * - each list is the address of its first element and its length in elements; the address is not NULL, also where the length is 0, and is aligned for its type;
+ * - a list that is written overlaps no other list of the same call.
+ *
+ * Nothing is allocated, kept or shared between calls.
+ */
+#ifndef HUBPLAN_H
+#define HUBPLAN_H
+
+#include <stdbool.h>
+#include <stddef.h>
+#include <stdint.h>
+
+#ifdef __cplusplus
+extern "C" {
+#endif
+
+/* Refusals, by their numbers in paper 01. The first that applies is reported, in the order given at each function. */
+enum hub_refusal {
+    HUB_ACCEPTED = 0,
+    HUB_LISTS = 1,    /* lent lists differ in length; in hub_read_fleet, a list has other than 64 places */
+    HUB_ROWS = 2,     /* more than 64 rows */
+    HUB_SPACE = 3,    /* working space shorter than HUB_SPACE_BYTES */
+    HUB_TICKS = 4,    /* ticks outside 2 to 43,200 */
+    HUB_HOURS = 5,    /* open hours wrong: p above q, or q above ticks (run only) */
+    HUB_WINDOW = 6,   /* a window breaks the rules: in a round start and end below ticks and different, in a run start below end and end at most ticks */
+    HUB_MARK = 7,     /* a mark above 1 */
+    HUB_NO_PLAN = 8,  /* no plan exists */
+    HUB_NOT_PLAN = 9, /* labels offered to the writer are not a plan */
+    HUB_BUFFER = 10,  /* plan tape buffer shorter than the tape */
+    HUB_FORM = 11     /* not of the form of a fleet tape */
+};
+
+enum {
+    HUB_MOST_ROWS = 64,
+    HUB_SPACE_BYTES = 16384,    /* working space of the planner */
+    HUB_PLAN_TAPE_BYTES = 392,  /* the longest plan tape: 8 + 6 * 64 */
+    HUB_FLEET_TAPE_BYTES = 400, /* the longest fleet tape that hub_reply takes */
+    HUB_REPLY_BYTES = 400       /* room that hub_reply asks for */
+};
+
+/* What a call reports: the refusal, and the count, which is 0 on a refusal. */
+struct hub_answer {
+    uint8_t refusal;
+    size_t count;
+};
+
+/* Plans a round of `ticks` ticks. A table is starts, ends and marks (0 may, 1 must be heard), a row at each place.
+ *
+ * Accepted: labels are the plan with the most heard rows (label 1 or 2, the receiver; 0 is not heard), and of those the one that comes first in paper 01's order; no
+ * other list of labels that is a plan hears more. The count is the number of labels that are 1 or 2. The first HUB_SPACE_BYTES of the working space are cleared to
+ * zero, bytes beyond are untouched. What labels and working space held before makes no difference.
+ * Refusal 8 exactly if no list of labels is a plan: labels are untouched, the same part of the working space is cleared.
+ * Any other refusal: labels and working space are untouched. Order: 1, 2, 3, 4, rows from 0, each for 6 and then 7, then 8. */
+struct hub_answer hub_plan_round(uint16_t ticks,
+                                 const uint16_t *starts, size_t starts_length,
+                                 const uint16_t *ends, size_t ends_length,
+                                 const uint8_t *marks, size_t marks_length,
+                                 uint8_t *labels, size_t labels_length,
+                                 uint8_t *space, size_t space_length);
+
+/* Plans a run of `ticks` ticks in which receiver 1 is open from p1 to q1 and receiver 2 from p2 to q2: a receiver can take a window only if p <= start and end <= q.
+ * The promise is that of hub_plan_round, with the hours as part of what a plan is. Order: 1, 2, 3, 4, 5, rows for 6 and 7, then 8. */
+struct hub_answer hub_plan_run(uint16_t ticks, uint16_t p1, uint16_t q1, uint16_t p2, uint16_t q2,
+                               const uint16_t *starts, size_t starts_length,
+                               const uint16_t *ends, size_t ends_length,
+                               const uint8_t *marks, size_t marks_length,
+                               uint8_t *labels, size_t labels_length,
+                               uint8_t *space, size_t space_length);
+
+/* Writes the plan tape of a round and labels.
+ *
+ * Accepted exactly if the labels are a plan of the table and the buffer `tape` is long enough: the tape, 8 + 6 * heard rows bytes, stands at the front of the buffer,
+ * the bytes after it are untouched, and the count is the tape's length. On a refusal the buffer is untouched. Order: 1, 2, 4, rows for 6 and 7, 9, 10. */
+struct hub_answer hub_write_plan_round(uint16_t ticks,
+                                       const uint16_t *starts, size_t starts_length,
+                                       const uint16_t *ends, size_t ends_length,
+                                       const uint8_t *marks, size_t marks_length,
+                                       const uint8_t *labels, size_t labels_length,
+                                       uint8_t *tape, size_t tape_length);
+
+/* The same for a run. Order: 1, 2, 4, 5, rows for 6 and 7, 9, 10. */
+struct hub_answer hub_write_plan_run(uint16_t ticks, uint16_t p1, uint16_t q1, uint16_t p2, uint16_t q2,
+                                     const uint16_t *starts, size_t starts_length,
+                                     const uint16_t *ends, size_t ends_length,
+                                     const uint8_t *marks, size_t marks_length,
+                                     const uint8_t *labels, size_t labels_length,
+                                     uint8_t *tape, size_t tape_length);
+
+/* What the fleet tape reader reports: the refusal, whether the tape is of a run, ticks, the open hours (all 0 in a round) and the number of rows. On a refusal all else
+ * is 0 and false. */
+struct hub_report {
+    uint8_t refusal;
+    bool run;
+    uint16_t ticks;
+    uint16_t p1;
+    uint16_t q1;
+    uint16_t p2;
+    uint16_t q2;
+    size_t rows;
+};
+
+/* Reads a fleet tape into lists of 64 places each. It takes exactly the tapes of paper 01's form with up to 64 rows, and judges the form alone: the planner judges the
+ * values. Accepted: starts, ends and marks hold the rows of the tape at the first places, the other places are untouched. On a refusal all places are untouched.
+ * Order: 1, 11, 2. */
+struct hub_report hub_read_fleet(const uint8_t *tape, size_t tape_length,
+                                 uint16_t *starts, size_t starts_length,
+                                 uint16_t *ends, size_t ends_length,
+                                 uint8_t *marks, size_t marks_length);
+
+/* Writes to the front of `out` what `hubplan` prints for a fleet tape, and returns how many bytes that is: "heard" and the count, then a line per row with its number
+ * and label; or "refused" and the number. A tape longer than 400 bytes gives "refused 11". The rest of `out` is untouched; the working space is left as the planner
+ * leaves it, and untouched where the planner is not reached. Where `out` is shorter than HUB_REPLY_BYTES nothing is written and the result is 0. */
+size_t hub_reply(const uint8_t *tape, size_t tape_length,
+                 uint8_t *out, size_t out_length,
+                 uint8_t *space, size_t space_length);
+
+#ifdef __cplusplus
+}
+#endif
+
+#endif

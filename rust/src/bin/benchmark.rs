@@ -1,0 +1,373 @@
+//! The benchmark: `cargo run --release --bin benchmark` prints every table of docs/BENCHMARKS.md. Times are processor time of this thread, or of the child process for
+//! glpsol, so that other work on the machine counts as little as possible.
+
+use hubplan::tables::{benchmark_tables, deep, Table};
+use hubplan::{first_free, port, Kind, Refusal, SPACE_BYTES};
+use std::fmt::Write as _;
+use std::hint::black_box;
+use std::path::{Path, PathBuf};
+use std::process::{Command, Stdio};
+use std::{env, fs};
+
+#[repr(C)]
+struct Timespec {
+    seconds: i64,
+    nanoseconds: i64,
+}
+
+#[repr(C)]
+struct Rusage {
+    user: [i64; 2],
+    system: [i64; 2],
+    rest: [i64; 14],
+}
+
+extern "C" {
+    fn clock_gettime(clock: i32, time: *mut Timespec) -> i32;
+    fn getrusage(who: i32, usage: *mut Rusage) -> i32;
+}
+
+/// Processor time of this thread in nanoseconds.
+fn thread_time() -> f64 {
+    let mut time = Timespec { seconds: 0, nanoseconds: 0 };
+    unsafe { clock_gettime(3, &mut time) };
+    time.seconds as f64 * 1e9 + time.nanoseconds as f64
+}
+
+/// Processor time of all ended children in nanoseconds.
+fn children_time() -> f64 {
+    let mut usage = Rusage {
+        user: [0; 2],
+        system: [0; 2],
+        rest: [0; 14],
+    };
+    unsafe { getrusage(-1, &mut usage) };
+    let micros = |t: [i64; 2]| t[0] as f64 * 1e6 + t[1] as f64;
+    (micros(usage.user) + micros(usage.system)) * 1e3
+}
+
+#[derive(Clone, Copy)]
+struct Spread {
+    low: f64,
+    median: f64,
+    high: f64,
+}
+
+/// The median, and the lower and upper quartile.
+fn spread(mut times: Vec<f64>) -> Spread {
+    times.sort_by(f64::total_cmp);
+    let at = |share: f64| times[((times.len() - 1) as f64 * share).round() as usize];
+    Spread {
+        low: at(0.25),
+        median: at(0.5),
+        high: at(0.75),
+    }
+}
+
+/// Nanoseconds for one call.
+fn time_of(calls: u32, call: &mut dyn FnMut()) -> f64 {
+    let began = thread_time();
+    for _ in 0..calls {
+        call();
+    }
+    (thread_time() - began) / calls as f64
+}
+
+/// Times the calls in turn, so that a slow stretch of the machine falls on all of them.
+fn measure(calls: &mut [&mut dyn FnMut()], rounds: usize) -> Vec<Spread> {
+    let counts: Vec<u32> = calls
+        .iter_mut()
+        .map(|call| {
+            let once = time_of(1, *call).max(100.0);
+            (2e6 / once).clamp(1.0, 10_000.0) as u32
+        })
+        .collect();
+    let mut times = vec![vec![]; calls.len()];
+    for _ in 0..rounds {
+        for (i, call) in calls.iter_mut().enumerate() {
+            times[i].push(time_of(counts[i], *call));
+        }
+    }
+    times.into_iter().map(spread).collect()
+}
+
+type Planner = fn(Kind, u16, &[u16], &[u16], &[u8], &mut [u8], &mut [u8]) -> Result<usize, Refusal>;
+
+fn plan_with(planner: Planner, table: &Table, labels: &mut [u8], space: &mut [u8]) -> Result<usize, Refusal> {
+    planner(table.kind, table.ticks, &table.starts, &table.ends, &table.marks, labels, space)
+}
+
+/// The planner's and the port's time for a table; they must agree.
+fn planners(table: &Table, rounds: usize) -> (Spread, Spread, Result<usize, Refusal>) {
+    let mut labels = vec![0; table.rows()];
+    let mut port_labels = labels.clone();
+    let (mut space, mut port_space) = (vec![0; SPACE_BYTES], vec![0; SPACE_BYTES]);
+    let mut proved_call = || {
+        let _ = black_box(plan_with(hubplan::plan, black_box(table), &mut labels, &mut space));
+    };
+    let mut port_call = || {
+        let _ = black_box(plan_with(port::plan, black_box(table), &mut port_labels, &mut port_space));
+    };
+    let times = measure(&mut [&mut proved_call, &mut port_call], rounds);
+    let answer = plan_with(hubplan::plan, table, &mut labels, &mut space);
+    assert_eq!(answer, plan_with(port::plan, table, &mut port_labels, &mut port_space));
+    assert_eq!(labels, port_labels);
+    (times[0], times[1], answer)
+}
+
+fn words(answer: Result<usize, Refusal>) -> String {
+    match answer {
+        Ok(count) => count.to_string(),
+        Err(refusal) => format!("refused {}", refusal.number()),
+    }
+}
+
+fn micros(time: f64) -> String {
+    let time = time / 1e3;
+    if time >= 100.0 {
+        format!("{time:.0}")
+    } else if time >= 10.0 {
+        format!("{time:.1}")
+    } else {
+        format!("{time:.2}")
+    }
+}
+
+/// The most rows that can be heard, as an integer program: a variable for each row and receiver; at each window's start at most one of the windows over it on each
+/// receiver (two windows overlap exactly if one covers the other's start).
+fn integer_program(table: &Table) -> String {
+    let rows = table.rows();
+    let ticks = table.ticks as u32;
+    let covers = |i: usize, tick: u16| {
+        let length = (table.ends[i] as u32 + ticks - table.starts[i] as u32 - 1) % ticks + 1;
+        (tick as u32 + ticks - table.starts[i] as u32) % ticks < length
+    };
+    let name = |i: usize, receiver: usize| format!("x{i}_{receiver}");
+    let sum = |names: Vec<String>| names.join(" + ");
+    let mut text = String::from("Maximize\n heard: ");
+    let all: Vec<String> = (0..rows).flat_map(|i| [name(i, 1), name(i, 2)]).collect();
+    text += &all.join("\n + ");
+    text += "\nSubject To\n";
+    for i in 0..rows {
+        let relation = if table.marks[i] == 1 { "=" } else { "<=" };
+        writeln!(text, " row{i}: {} {relation} 1", sum(vec![name(i, 1), name(i, 2)])).unwrap();
+        for receiver in [1, 2] {
+            let over: Vec<String> = (0..rows).filter(|&j| covers(j, table.starts[i])).map(|j| name(j, receiver)).collect();
+            if over.len() > 1 {
+                writeln!(text, " tick{i}_{receiver}: {} <= 1", over.join("\n + ")).unwrap();
+            }
+            if let Kind::Run(hours) = table.kind {
+                let [p, q] = hours[receiver - 1];
+                if table.starts[i] < p || q < table.ends[i] {
+                    writeln!(text, " shut{i}_{receiver}: {} = 0", name(i, receiver)).unwrap();
+                }
+            }
+        }
+    }
+    text += "Binary\n ";
+    text += &all.join("\n ");
+    text + "\nEnd\n"
+}
+
+fn glpsol_version() -> Option<String> {
+    let output = Command::new("glpsol").arg("--version").output().ok()?;
+    Some(String::from_utf8_lossy(&output.stdout).lines().next()?.to_string())
+}
+
+/// Nanoseconds of processor time for one run of glpsol on a file, from its start to its end.
+fn glpsol_once(file: &Path) -> f64 {
+    let began = children_time();
+    let status = Command::new("glpsol")
+        .arg("--lp")
+        .arg(file)
+        .stdout(Stdio::null())
+        .stderr(Stdio::null())
+        .status();
+    assert!(status.expect("glpsol runs").success());
+    children_time() - began
+}
+
+/// The maximum that glpsol finds; none where there is no solution.
+fn glpsol_maximum(file: &Path) -> Option<usize> {
+    let solution = file.with_extension("sol");
+    let status = Command::new("glpsol")
+        .arg("--lp")
+        .arg(file)
+        .arg("-w")
+        .arg(&solution)
+        .stdout(Stdio::null())
+        .status();
+    assert!(status.expect("glpsol runs").success());
+    let text = fs::read_to_string(&solution).expect("glpsol wrote its solution");
+    // s mip ROWS COLUMNS STATUS VALUE
+    let line: Vec<&str> = text.lines().find(|line| line.starts_with("s mip"))?.split_whitespace().collect();
+    if line[4] == "o" {
+        line[5].parse().ok()
+    } else {
+        None
+    }
+}
+
+fn tables_of_64_rows(folder: &Path) {
+    let version = glpsol_version();
+    println!("## Tables of 64 rows\n");
+    println!("One whole plan in microseconds of processor time: the median of repeated runs (lower to upper quartile).\n");
+    println!("| table | windows over a tick | heard | planner | hand port | planner / port | old planner | it hears fewer by | glpsol, one maximum | planner / glpsol |");
+    println!("|---|---|---|---|---|---|---|---|---|---|");
+    let start = version.as_ref().map(|_| {
+        let file = folder.join("start.lp");
+        fs::write(&file, "Maximize\n heard: x\nSubject To\n row: x <= 1\nBinary\n x\nEnd\n").unwrap();
+        spread((0..41).map(|_| glpsol_once(&file)).collect())
+    });
+    for (name, table) in benchmark_tables() {
+        let (proved, ported, answer) = planners(&table, 41);
+        let mut labels = vec![0; table.rows()];
+        let mut old = Ok(0);
+        let mut old_call = || {
+            let table = black_box(&table);
+            old = black_box(first_free::plan(
+                table.kind,
+                table.ticks,
+                &table.starts,
+                &table.ends,
+                &table.marks,
+                &mut labels,
+            ));
+        };
+        let old_time = measure(&mut [&mut old_call], 41)[0];
+        let fewer = match (answer, old) {
+            (Ok(count), Ok(old)) => (count - old).to_string(),
+            (_, old) => words(old),
+        };
+        let (solver, share) = match start {
+            None => ("not installed".to_string(), "".to_string()),
+            Some(start) => {
+                let file = folder.join("table.lp");
+                fs::write(&file, integer_program(&table)).unwrap();
+                assert_eq!(glpsol_maximum(&file), answer.ok(), "{name}");
+                let time = spread((0..21).map(|_| glpsol_once(&file)).collect());
+                let net = (time.median - start.median).max(1.0);
+                (
+                    format!(
+                        "{} ({} to {})",
+                        micros(net),
+                        micros((time.low - start.median).max(0.0)),
+                        micros(time.high - start.median)
+                    ),
+                    format!("{:.3}", proved.median / net),
+                )
+            }
+        };
+        let (low, high) = table.depth();
+        println!(
+            "| {name} | {low} to {high} | {} | {} ({} to {}) | {} ({} to {}) | {:.2} | {} | {fewer} | {solver} | {share} |",
+            words(answer),
+            micros(proved.median),
+            micros(proved.low),
+            micros(proved.high),
+            micros(ported.median),
+            micros(ported.low),
+            micros(ported.high),
+            proved.median / ported.median,
+            micros(old_time.median),
+        );
+    }
+    match (version, start) {
+        (Some(version), Some(start)) => println!(
+            "\nglpsol is {version}; its times are without the {} microseconds that it needs to start, read a file and end.",
+            micros(start.median)
+        ),
+        _ => println!("\nglpsol is not installed (Debian: apt-get install glpk-utils)."),
+    }
+}
+
+fn growth() {
+    println!("\n## From 8 to 64 rows\n");
+    println!("The planner in microseconds of processor time, and its ratio to the hand port.\n");
+    println!("| rows | 1 to 2 deep | / port | 4 to 5 deep | / port | a quarter of the rows deep | / port |");
+    println!("|---|---|---|---|---|---|---|");
+    for rows in [8, 16, 24, 32, 48, 64] {
+        let mut line = format!("| {rows} ");
+        for (low, high) in [(1, 2), (4, 5), (rows / 4, rows / 4)] {
+            // the median over five tables, since one table more or less says little
+            let times: Vec<(f64, f64)> = (0..5)
+                .map(|seed| {
+                    let (proved, ported, _) = planners(&deep(rows, low, high, 900 + seed), 11);
+                    (proved.median, proved.median / ported.median)
+                })
+                .collect();
+            let time = spread(times.iter().map(|t| t.0).collect()).median;
+            let ratio = spread(times.iter().map(|t| t.1).collect()).median;
+            write!(line, "| {} | {ratio:.2} ", micros(time)).unwrap();
+        }
+        println!("{line}|");
+    }
+}
+
+/// Runs one plan, for callgrind to count.
+fn one_plan(index: usize, planner: Planner) {
+    let (_, table) = &benchmark_tables()[index];
+    let (mut labels, mut space) = (vec![0; 64], vec![0; SPACE_BYTES]);
+    let _ = black_box(plan_with(planner, table, &mut labels, &mut space));
+}
+
+fn counted(folder: &Path, index: usize, planner: &str, function: &str) -> Option<u64> {
+    let output = Command::new("valgrind")
+        .arg("--tool=callgrind")
+        .arg(format!("--toggle-collect={function}"))
+        .arg(format!("--callgrind-out-file={}", folder.join("callgrind.out").display()))
+        .arg(env::current_exe().ok()?)
+        .args(["one", &index.to_string(), planner])
+        .output()
+        .ok()?;
+    let text = String::from_utf8_lossy(&output.stderr).to_string();
+    text.lines()
+        .find(|line| line.contains("Collected"))?
+        .split_whitespace()
+        .last()?
+        .parse()
+        .ok()
+}
+
+fn instructions(folder: &Path) {
+    println!("\n## Instructions\n");
+    let Ok(version) = Command::new("valgrind").arg("--version").output() else {
+        println!("valgrind is not installed.");
+        return;
+    };
+    println!(
+        "Instructions of one plan, counted by {}; the same on every run.\n",
+        String::from_utf8_lossy(&version.stdout).trim()
+    );
+    println!("| table | planner | hand port | planner / port |");
+    println!("|---|---|---|---|");
+    for index in [0, 4] {
+        let name = benchmark_tables()[index].0;
+        let proved = counted(folder, index, "planner", "hub_plan_round");
+        let ported = counted(folder, index, "port", "hubplan::port::plan");
+        match (proved, ported) {
+            (Some(proved), Some(ported)) => println!("| {name} | {proved} | {ported} | {:.2} |", proved as f64 / ported as f64),
+            _ => println!("| {name} | not counted | | |"),
+        }
+    }
+}
+
+fn main() {
+    let words: Vec<String> = env::args().skip(1).collect();
+    let words: Vec<&str> = words.iter().map(String::as_str).collect();
+    match words[..] {
+        ["one", index, "planner"] => return one_plan(index.parse().expect("a table's number"), hubplan::plan),
+        ["one", index, "port"] => return one_plan(index.parse().expect("a table's number"), port::plan),
+        [] => {}
+        _ => {
+            eprintln!("usage: benchmark [one NUMBER planner|port]");
+            std::process::exit(2);
+        }
+    }
+    let folder: PathBuf = env::temp_dir().join(format!("hubplan-benchmark-{}", std::process::id()));
+    fs::create_dir_all(&folder).expect("a folder for glpsol's files");
+    tables_of_64_rows(&folder);
+    growth();
+    instructions(&folder);
+    fs::remove_dir_all(&folder).expect("the folder goes");
+}

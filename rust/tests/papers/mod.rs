@@ -1,0 +1,365 @@
+//! Papers 00 and 01 once more, written from their text alone and sharing no code with the planner: the comparison for the tests. Windows are sets of ticks, found by
+//! walking; up to 8 rows every list of labels is tried; a larger table is planned by a forward search over what each receiver is busy with.
+
+use hubplan::tables::Table;
+use hubplan::Kind;
+use std::collections::HashMap;
+
+/// The ticks of a window as bits, walked as paper 01 says: start, start + 1 and so on, from R - 1 to 0 in a round, up to the tick before the end.
+fn ticks_of(kind: Kind, ticks: u16, start: u16, end: u16) -> Vec<u64> {
+    let ticks = ticks as usize;
+    let mut set = vec![0u64; ticks.div_ceil(64)];
+    let mut tick = start as usize;
+    loop {
+        set[tick / 64] |= 1 << (tick % 64);
+        tick += 1;
+        if kind == Kind::Round && tick == ticks {
+            tick = 0;
+        }
+        if tick == end as usize {
+            return set;
+        }
+    }
+}
+
+/// For each two rows, whether some tick lies in both windows.
+pub fn overlaps(table: &Table) -> Vec<Vec<bool>> {
+    let sets: Vec<Vec<u64>> = (0..table.rows())
+        .map(|i| ticks_of(table.kind, table.ticks, table.starts[i], table.ends[i]))
+        .collect();
+    let meet = |a: &Vec<u64>, b: &Vec<u64>| a.iter().zip(b).any(|(x, y)| x & y != 0);
+    sets.iter().map(|a| sets.iter().map(|b| meet(a, b)).collect()).collect()
+}
+
+fn window_holds(table: &Table, i: usize) -> bool {
+    let (start, end) = (table.starts[i], table.ends[i]);
+    match table.kind {
+        Kind::Round => start < table.ticks && end < table.ticks && start != end,
+        Kind::Run(_) => start < end && end <= table.ticks,
+    }
+}
+
+/// Refusals 1 and 2.
+fn lists_refusal(table: &Table, labels: usize) -> u8 {
+    let rows = table.starts.len();
+    if table.ends.len() != rows || table.marks.len() != rows || labels != rows {
+        1
+    } else if rows > 64 {
+        2
+    } else {
+        0
+    }
+}
+
+/// Refusals 4 to 7.
+fn table_refusal(table: &Table) -> u8 {
+    if table.ticks < 2 || table.ticks > 43_200 {
+        return 4;
+    }
+    if let Kind::Run(hours) = table.kind {
+        for [p, q] in hours {
+            if p > q || q > table.ticks {
+                return 5;
+            }
+        }
+    }
+    for i in 0..table.rows() {
+        if !window_holds(table, i) {
+            return 6;
+        }
+        if table.marks[i] > 1 {
+            return 7;
+        }
+    }
+    0
+}
+
+/// Whether row i may have the label, other rows aside.
+fn allowed(table: &Table, i: usize, label: u8) -> bool {
+    if label > 2 || (table.marks[i] == 1 && label == 0) {
+        return false;
+    }
+    match table.kind {
+        Kind::Run(hours) if label > 0 => {
+            let [p, q] = hours[label as usize - 1];
+            p <= table.starts[i] && table.ends[i] <= q
+        }
+        _ => true,
+    }
+}
+
+pub fn is_plan(table: &Table, meet: &[Vec<bool>], labels: &[u8]) -> bool {
+    let rows = table.rows();
+    labels.len() == rows
+        && (0..rows).all(|i| allowed(table, i, labels[i]))
+        && (0..rows).all(|i| (0..i).all(|j| labels[i] == 0 || labels[i] != labels[j] || !meet[i][j]))
+}
+
+pub fn heard(labels: &[u8]) -> usize {
+    labels.iter().filter(|&&label| label == 1 || label == 2).count()
+}
+
+/// "1 comes before 2, and 2 before 0."
+fn place(label: u8) -> u8 {
+    match label {
+        1 => 0,
+        2 => 1,
+        _ => 2,
+    }
+}
+
+fn comes_before(a: &[u8], b: &[u8]) -> bool {
+    heard(a) > heard(b) || (heard(a) == heard(b) && a.iter().map(|&x| place(x)).lt(b.iter().map(|&x| place(x))))
+}
+
+/// The right plan by trying every list of labels.
+pub fn plan_by_trying(table: &Table) -> Option<Vec<u8>> {
+    let meet = overlaps(table);
+    let mut best: Option<Vec<u8>> = None;
+    let mut labels = vec![0u8; table.rows()];
+    loop {
+        if is_plan(table, &meet, &labels) && best.as_ref().is_none_or(|b| comes_before(&labels, b)) {
+            best = Some(labels.clone());
+        }
+        let Some(i) = labels.iter().position(|&label| label < 2) else {
+            return best;
+        };
+        labels[..i].fill(0);
+        labels[i] += 1;
+    }
+}
+
+/// The rows heard so far and the labels given so far, two bits a row and row 0 uppermost; a row without a label counts as the first, so that of two
+/// searches at the same point the greater is better whatever follows.
+#[derive(Clone, Copy, PartialEq, Eq, PartialOrd, Ord)]
+struct Worth {
+    heard: u32,
+    order: u128,
+}
+
+impl Worth {
+    fn with(self, row: usize, label: u8) -> Worth {
+        Worth {
+            heard: self.heard + (label > 0) as u32,
+            order: self.order - ((place(label) as u128) << (2 * (63 - row))),
+        }
+    }
+
+    fn label(self, row: usize) -> u8 {
+        [1, 2, 0][3 - (self.order >> (2 * (63 - row)) & 3) as usize]
+    }
+}
+
+/// The right plan by a forward search from tick 0: for each choice of the rows that go over the end of the day, rows by start, keeping the best for each two ticks until
+/// which the receivers are busy.
+pub fn plan_by_search(table: &Table) -> Option<Vec<u8>> {
+    let rows = table.rows();
+    let over_end: Vec<usize> = match table.kind {
+        Kind::Round => (0..rows).filter(|&i| table.ends[i] != 0 && table.ends[i] < table.starts[i]).collect(),
+        Kind::Run(_) => vec![],
+    };
+    let end = |i: usize| if table.ends[i] == 0 { table.ticks } else { table.ends[i] };
+    let mut line: Vec<usize> = (0..rows).filter(|i| !over_end.contains(i)).collect();
+    line.sort_by_key(|&i| table.starts[i]);
+    let choices: Vec<Option<usize>> = std::iter::once(None).chain(over_end.iter().map(|&i| Some(i))).collect();
+    let mut best: Option<Worth> = None;
+    for &first in &choices {
+        for &second in &choices {
+            if first.is_some() && first == second {
+                continue;
+            }
+            let mut worth = Worth { heard: 0, order: u128::MAX };
+            let mut fits = true;
+            for &i in &over_end {
+                let label = if Some(i) == first {
+                    1
+                } else if Some(i) == second {
+                    2
+                } else {
+                    0
+                };
+                fits &= allowed(table, i, label);
+                worth = worth.with(i, label);
+            }
+            if !fits {
+                continue;
+            }
+            let opens = [first.map_or(0, |i| table.ends[i]), second.map_or(0, |i| table.ends[i])];
+            let closes = [
+                first.map_or(table.ticks, |i| table.starts[i]),
+                second.map_or(table.ticks, |i| table.starts[i]),
+            ];
+            let mut states = HashMap::from([(opens, worth)]);
+            for &i in &line {
+                let mut next: HashMap<[u16; 2], Worth> = HashMap::new();
+                for (&busy, &worth) in &states {
+                    let mut reach = |busy: [u16; 2], worth: Worth| {
+                        // a receiver that is free by now is free from now on
+                        let busy = busy.map(|tick| tick.max(table.starts[i]));
+                        let known = next.entry(busy).or_insert(worth);
+                        *known = worth.max(*known);
+                    };
+                    for label in [1u8, 2, 0] {
+                        if !allowed(table, i, label) {
+                            continue;
+                        }
+                        if label == 0 {
+                            reach(busy, worth.with(i, 0));
+                            continue;
+                        }
+                        let receiver = label as usize - 1;
+                        if busy[receiver] <= table.starts[i] && end(i) <= closes[receiver] {
+                            let mut later = busy;
+                            later[receiver] = end(i);
+                            reach(later, worth.with(i, label));
+                        }
+                    }
+                }
+                states = next;
+            }
+            best = best.max(states.values().copied().max());
+        }
+    }
+    best.map(|worth| (0..rows).map(|i| worth.label(i)).collect())
+}
+
+/// What a call of the planner gives: refusal (0 for none), count and labels.
+pub fn planned(table: &Table, labels: &[u8], space: usize) -> (u8, usize, Vec<u8>) {
+    let refusal = match lists_refusal(table, labels.len()) {
+        0 if space < 16_384 => 3,
+        0 => table_refusal(table),
+        refusal => refusal,
+    };
+    if refusal > 0 {
+        return (refusal, 0, labels.to_vec());
+    }
+    match plan_by_search(table) {
+        None => (8, 0, labels.to_vec()),
+        Some(plan) => (0, heard(&plan), plan),
+    }
+}
+
+fn word(tape: &mut Vec<u8>, n: u16) {
+    tape.extend([(n >> 8) as u8, n as u8]);
+}
+
+/// The plan tape of labels that are a plan.
+pub fn plan_tape(table: &Table, labels: &[u8]) -> Vec<u8> {
+    let mut tape = vec![if table.kind == Kind::Round { 0x10 } else { 0x11 }];
+    word(&mut tape, table.ticks);
+    for receiver in [1u8, 2] {
+        tape.extend([0x20, receiver]);
+        let mut rows: Vec<usize> = (0..table.rows()).filter(|&i| labels[i] == receiver).collect();
+        rows.sort_by_key(|&i| table.starts[i]);
+        for i in rows {
+            tape.extend([0x30, i as u8]);
+            word(&mut tape, table.starts[i]);
+            word(&mut tape, table.ends[i]);
+        }
+    }
+    tape.push(0x7f);
+    tape
+}
+
+/// What a call of the writer gives: refusal, count and the buffer.
+pub fn written(table: &Table, labels: &[u8], buffer: &[u8]) -> (u8, usize, Vec<u8>) {
+    let mut refusal = lists_refusal(table, labels.len());
+    if refusal == 0 {
+        refusal = table_refusal(table);
+    }
+    if refusal == 0 && !is_plan(table, &overlaps(table), labels) {
+        refusal = 9;
+    }
+    if refusal == 0 && buffer.len() < 8 + 6 * heard(labels) {
+        refusal = 10;
+    }
+    if refusal > 0 {
+        return (refusal, 0, buffer.to_vec());
+    }
+    let mut tape = plan_tape(table, labels);
+    let count = tape.len();
+    tape.extend(&buffer[count..]);
+    (0, count, tape)
+}
+
+/// The fleet tape of a table.
+pub fn fleet_tape(table: &Table) -> Vec<u8> {
+    let mut tape = vec![];
+    match table.kind {
+        Kind::Round => {
+            tape.push(0x10);
+            word(&mut tape, table.ticks);
+        }
+        Kind::Run(hours) => {
+            tape.push(0x11);
+            word(&mut tape, table.ticks);
+            tape.push(0x50);
+            for n in hours.concat() {
+                word(&mut tape, n);
+            }
+        }
+    }
+    for i in 0..table.rows() {
+        tape.push(if table.marks[i] == 1 { 0x41 } else { 0x40 });
+        word(&mut tape, table.starts[i]);
+        word(&mut tape, table.ends[i]);
+    }
+    tape.push(0x7f);
+    tape
+}
+
+/// The table that a fleet tape states, of any number of rows; none if it is not of the form.
+pub fn read_fleet(tape: &[u8]) -> Option<Table> {
+    let mut rest = tape.iter().copied();
+    let mut byte = || rest.next();
+    let command = byte()?;
+    let next_word = |byte: &mut dyn FnMut() -> Option<u8>| Some((byte()? as u16) << 8 | byte()? as u16);
+    let ticks = next_word(&mut byte)?;
+    let mut table = match command {
+        0x10 => Table::empty(Kind::Round, ticks),
+        0x11 => {
+            if byte()? != 0x50 {
+                return None;
+            }
+            let mut hours = [[0; 2]; 2];
+            for pair in &mut hours {
+                for hour in pair {
+                    *hour = next_word(&mut byte)?;
+                }
+            }
+            Table::empty(Kind::Run(hours), ticks)
+        }
+        _ => return None,
+    };
+    loop {
+        match byte()? {
+            0x7f => return if byte().is_none() { Some(table) } else { None },
+            command @ (0x40 | 0x41) => {
+                table.starts.push(next_word(&mut byte)?);
+                table.ends.push(next_word(&mut byte)?);
+                table.marks.push(command - 0x40);
+            }
+            _ => return None,
+        }
+    }
+}
+
+/// What `hubplan` prints for a tape.
+pub fn reply(tape: &[u8]) -> String {
+    let refused = |number: u8| format!("refused {number}\n");
+    if tape.len() > 400 {
+        return refused(11);
+    }
+    let Some(table) = read_fleet(tape) else {
+        return refused(11);
+    };
+    if table.rows() > 64 {
+        return refused(2);
+    }
+    let (refusal, count, labels) = planned(&table, &vec![0; table.rows()], 16_384);
+    if refusal > 0 {
+        return refused(refusal);
+    }
+    let lines: String = labels.iter().enumerate().map(|(i, label)| format!("{i} {label}\n")).collect();
+    format!("heard {count}\n{lines}")
+}
