@@ -1,14 +1,13 @@
 -- What a writer call gives when its checks refuse and when they pass. A call that passes has a plan, whose rows on one receiver start at different ticks, and a buffer that is long enough.
 use Prim.Native.Nat.{ℕ, _+_, _*_, _≤_, _<_}
-use mathlib.Core.Path.{_≡_, refl, sym, ap, _∙_}
-use mathlib.Core.Logic.{_≢_}
+use mathlib.Core.Path.{_≡_, refl, sym, _∙_}
 use mathlib.Core.Bool.{Bool, true, false, not, cond, _&&_, _||_}
-use mathlib.Core.List.{List, _++_}
+use mathlib.Core.List.{List}
 use native.Mathlib.Nat.{le-refl}
 use native.Mathlib.Omega.{arith}
 use borrow.Author.Tests.{le-leb, lt-leb, leb-true, eq-eqb, ne-eqb, not-true, not-false}
-use lib.Dec.{leb, ltb, eqb}
-use lib.ListN.{length, drop}
+use lib.Dec.{leb, ltb}
+use lib.ListN.{length}
 use Rattle.labels.specs.Labels.{at, heard}
 use Rattle.window.specs.Windows.{covers, overlaps}
 use Rattle.window.proofs.Meaning.{overlaps-iff}
@@ -20,10 +19,11 @@ use Rattle.table.specs.Tables.{Table, rows, Plan, Valid, isPlan}
 use Rattle.table.specs.Checks.{listsRefusal, tableLooked}
 use Rattle.table.proofs.Checked.{Passed, then-passed, asked-passed, lists-passed, table-passed}
 use Rattle.table.proofs.Plans.{plan-iff}
-use Rattle.plan_tape.specs.PlanTapes.{planTape}
-use Rattle.plan_tape.specs.Written.{tapeOf, writeRefusal, Written, written}
+use Rattle.plan_tape.specs.PlanTapes.{rowsOf}
+use Rattle.plan_tape.specs.Written.{tapeOf, writeRefusal, written}
 use Rattle.plan_tape.specs.Parts.{Put, Differ, Writable}
 use Rattle.plan_tape.proofs.Puts.{put-all}
+use Rattle.plan_tape.proofs.Order.{Rising, rising-rows}
 use Rattle.plan_tape.proofs.Length.{tape-length}
 
 -- ---- the order of the checks
@@ -75,6 +75,10 @@ module _ (t : Table) (labels : List ℕ) where
       P .apart i j (omega (arith, P .each)) (omega (arith, P .each)) d (omega arith) (x ∙ sym y)
       (overlaps-iff (t .kind) (t .ticks) (at (t .starts) i) (at (t .ends) i) (at (t .starts) j) (at (t .ends) j) (v .window i (omega (arith, P .each))) (v .window j (omega (arith, P .each))) .0
       (rw s (same-start (at (t .starts) j) (at (t .ends) i) (at (t .ends) j))))
+
+  -- "by rising start": of a plan, the starts of a receiver's rows rise from one LISTEN to the next
+  pub plan-rising : Valid t → Plan t labels → (receiver : ℕ) → 1 ≤ receiver → Rising (t .starts) 0 (rowsOf (t .starts) labels receiver)
+  plan-rising v P receiver h = rising-rows (t .starts) labels receiver (plan-differ v P receiver h) (length labels) (le-refl (length labels))
 
   -- what the call has, if all checks pass
   pub record Fit (buffer : ℕ) : Type 0 where

@@ -1,14 +1,14 @@
 -- How long a plan tape is: "8 + 6 × count bytes".
-use Prim.Native.Nat.{ℕ, zero, suc, _+_, _*_, _≤_, _<_}
+use Prim.Native.Nat.{ℕ, zero, suc, _+_, _*_, _≤_}
 use mathlib.Core.Path.{_≡_, refl}
 use mathlib.Core.Bool.{cond}
-use mathlib.Core.List.{List, [], _∷_, _++_}
+use mathlib.Core.List.{List, [], _∷_}
 use native.Mathlib.Omega.{arith}
 use native.Mathlib.Numerals.{add-one}
 use native.Mathlib.Nat.{le-refl}
 use borrow.Author.Tests.{ne-eqb}
 use lib.Dec.{eqb}
-use lib.ListN.{length, take, getD, length-append}
+use lib.ListN.{length, take, length-append}
 use Rattle.labels.specs.Labels.{at, heard, hears}
 use Rattle.labels.proofs.Heard.{heard-nil, heard-more, heard-all}
 use Rattle.window.specs.declared.Kind.{Kind}

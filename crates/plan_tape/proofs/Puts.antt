@@ -1,10 +1,10 @@
 -- Bytes stored one part after the other are stored together.
 use Prim.Native.Nat.{ℕ, suc, _+_, _≤_}
-use mathlib.Core.Path.{_≡_, refl, sym, ap, _∙_}
+use mathlib.Core.Path.{_≡_, refl, ap, _∙_}
 use mathlib.Core.List.{List, [], _∷_, _++_}
 use native.Mathlib.Nat.{add-zero, zero-add}
 use native.Mathlib.Omega.{arith}
-use lib.ListN.{length, drop, take, length-append}
+use lib.ListN.{length, drop, length-append}
 use lib.Seq.{sets, sets-eq, length-sets}
 use Rattle.plan_tape.specs.Parts.{Put}
 

@@ -1,15 +1,15 @@
 -- A plan tape states exactly its plan: from its bytes alone one reads the kind, R and, for each receiver, the rows with their windows; a row stands under a receiver exactly if its label is that receiver.
-use Prim.Native.Nat.{ℕ, zero, suc, _+_, _*_, _≤_, _<_}
-use mathlib.Core.Path.{_≡_, refl, sym, ap, _∙_}
-use mathlib.Core.Logic.{_≢_, _↔_, ⊎-elim}
-use mathlib.Core.Bool.{Bool, true, false, cond}
+use Prim.Native.Nat.{ℕ, zero, suc, _+_, _≤_, _<_}
+use mathlib.Core.Path.{_≡_, refl}
+use mathlib.Core.Logic.{_≢_, _↔_}
+use mathlib.Core.Bool.{cond}
 use mathlib.Core.List.{List, [], _∷_, _++_, map, List·Memᴰ, Memᴰ·map, Memᴰ·of-map, Memᴰ·cast}
 use native.Mathlib.Decide.{decLt}
 use native.Mathlib.Omega.{arith}
 use borrow.Author.Tests.{ne-eqb}
 use lib.Dec.{eqb}
 use lib.ListN.{length, drop, List·getD-eq-default}
-use Rattle.labels.specs.Labels.{at, heard}
+use Rattle.labels.specs.Labels.{at}
 use Rattle.window.specs.declared.Kind.{Kind}
 use Rattle.window.specs.declared.Kind.the-variants.{Round, Run}
 use Rattle.tape.specs.Commands.{ROUND, RECEIVER, LISTEN, STOP}

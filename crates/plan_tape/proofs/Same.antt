@@ -12,11 +12,9 @@ use lib.ListN.{length, take, drop, List·getD-eq-default}
 use lib.Seq.{take-append-seam}
 use Rattle.labels.specs.Labels.{at}
 use Rattle.window.specs.declared.Kind.{Kind}
-use Rattle.table.specs.declared.Refusal.{Refusal}
 use Rattle.table.specs.declared.Refusal.the-variants.{Accepted}
 use Rattle.table.specs.Refusals.{numberOf}
-use Rattle.table.specs.Tables.{Table, rows, Plan}
-use Rattle.table.proofs.Checked.{Passed}
+use Rattle.table.specs.Tables.{Table, Plan}
 use Rattle.plan_tape.specs.PlanTapes.{planTape}
 use Rattle.plan_tape.specs.Written.{tapeOf, writeRefusal, Written, decide, written, SamePlan}
 use Rattle.plan_tape.proofs.Accepted.{Fit, write-fit}

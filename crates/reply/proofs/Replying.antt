@@ -9,10 +9,10 @@ use lib.Dec.{eqb, leb}
 use lib.ListN.{length, take, drop, length-append}
 use lib.Seq.{length-take-le}
 use borrow.Author.Tests.{eq-eqb, ne-eqb, eqb-true, eqb-false, leb-true, le-leb, lt-leb}
-use Rattle.labels.specs.Labels.{at, heard}
+use Rattle.labels.specs.Labels.{at}
 use Rattle.labels.proofs.Heard.{heard-le}
 use Rattle.table.specs.declared.Refusal.{Refusal}
-use Rattle.table.specs.declared.Refusal.the-variants.{Accepted, Lists, Rows, Form}
+use Rattle.table.specs.declared.Refusal.the-variants.{Lists, Rows, Form}
 use Rattle.table.specs.declared.Answer.{Answer}
 use Rattle.table.specs.Refusals.{numberOf}
 use Rattle.table.specs.Tables.{Table, table}
@@ -22,8 +22,8 @@ use Rattle.table.proofs.Rivals.{best-plan, planned-passed}
 use Rattle.fleet_tape.specs.Form.{Fleet, fleetOf}
 use Rattle.fleet_tape.specs.Reading.{Reading, reading, refused, taken, judged, hasPlaces, fleetRead}
 use Rattle.reply.specs.Lines.{heardWord, refusedWord, wordLine, rowLine, rowLines, printed}
-use Rattle.reply.specs.Replied.{places, tableOf, refusedWith, readAnswer, tapeAnswer, Replied, replying, repliedWith, replied, Within}
-use Rattle.reply.specs.Put.{Put, Labels, answerOf, Answerable, Lent}
+use Rattle.reply.specs.Replied.{places, refusedWith, readAnswer, tapeAnswer, Replied, replying, repliedWith, replied, Within}
+use Rattle.reply.specs.Put.{Put, answerOf, Answerable, Lent}
 use Rattle.reply.proofs.Putting.{put-front, word-length, row-length, number-most}
 
 -- ---- the lines

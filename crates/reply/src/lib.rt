@@ -13,7 +13,7 @@ use table::Answer;
 use table::Refusal;
 use window::Kind;
 
-// The output that a call needs, in bytes; a reply is never longer than 329.
+// The output that a call needs, in bytes; the longest reply has 319.
 pub const OUT_BYTES: usize = 400;
 
 // The longest tape that is read, in bytes.

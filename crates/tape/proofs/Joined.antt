@@ -1,7 +1,7 @@
 -- A 16-bit number and its two bytes: each gives back the other.
 use Prim.Native.Nat.{ℕ, _+_, _*_, _/_, _%_, _<_}
 use mathlib.Core.Path.{_≡_, refl}
-use mathlib.Core.List.{List, [], _∷_}
+use mathlib.Core.List.{[], _∷_}
 use native.Mathlib.Omega.{arith}
 use native.Mathlib.Nat.{div-add-mod'}
 use Rattle.tape.specs.Words.{word, highByte, lowByte, joined}

@@ -2,13 +2,12 @@
 use Prim.Native.Nat.{ℕ, _≤_, _<_}
 use mathlib.Core.Path.{_≡_, refl, ap}
 use mathlib.Core.Bool.{true, false, not}
-use mathlib.Core.List.{List, [], _∷_, _++_}
+use mathlib.Core.List.{List, _∷_, _++_}
 use native.Mathlib.Omega.{arith}
 use native.Mathlib.Decide.{decLt}
 use borrow.Author.Tests.{ne-eqb}
-use lib.Dec.{eqb, leb}
 use lib.ListN.{getD, replicate}
-use Rattle.labels.specs.Labels.{every, _⇒_}
+use Rattle.labels.specs.Labels.{every}
 use Rattle.labels.proofs.Tests.{every-iff, imp-iff, eqb-iff, leb-iff}
 use Rattle.tape.specs.Commands.{isCommand, operandBytes}
 

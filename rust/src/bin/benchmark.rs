@@ -53,6 +53,12 @@ struct Spread {
     high: f64,
 }
 
+impl Spread {
+    fn words(self) -> String {
+        format!("{} ({} to {})", micros(self.median), micros(self.low), micros(self.high))
+    }
+}
+
 /// The median, and the lower and upper quartile.
 fn spread(mut times: Vec<f64>) -> Spread {
     times.sort_by(f64::total_cmp);
@@ -97,20 +103,40 @@ fn plan_with(planner: Planner, table: &Table, labels: &mut [u8], space: &mut [u8
     planner(table.kind, table.ticks, &table.starts, &table.ends, &table.marks, labels, space)
 }
 
+/// Working space that starts at another place of its page on each call, since where it lies can matter to the processor.
+struct Moving {
+    bytes: Vec<u8>,
+    at: usize,
+}
+
+impl Moving {
+    fn new() -> Moving {
+        Moving {
+            bytes: vec![0; SPACE_BYTES + 4_096],
+            at: 0,
+        }
+    }
+
+    fn next(&mut self) -> &mut [u8] {
+        self.at = (self.at + 16 * 61) % 4_096;
+        &mut self.bytes[self.at..self.at + SPACE_BYTES]
+    }
+}
+
 /// The planner's and the port's time for a table; they must agree.
 fn planners(table: &Table, rounds: usize) -> (Spread, Spread, Result<usize, Refusal>) {
     let mut labels = vec![0; table.rows()];
     let mut port_labels = labels.clone();
-    let (mut space, mut port_space) = (vec![0; SPACE_BYTES], vec![0; SPACE_BYTES]);
+    let (mut space, mut port_space) = (Moving::new(), Moving::new());
     let mut proved_call = || {
-        let _ = black_box(plan_with(hubplan::plan, black_box(table), &mut labels, &mut space));
+        let _ = black_box(plan_with(hubplan::plan, black_box(table), &mut labels, space.next()));
     };
     let mut port_call = || {
-        let _ = black_box(plan_with(port::plan, black_box(table), &mut port_labels, &mut port_space));
+        let _ = black_box(plan_with(port::plan, black_box(table), &mut port_labels, port_space.next()));
     };
     let times = measure(&mut [&mut proved_call, &mut port_call], rounds);
-    let answer = plan_with(hubplan::plan, table, &mut labels, &mut space);
-    assert_eq!(answer, plan_with(port::plan, table, &mut port_labels, &mut port_space));
+    let answer = plan_with(hubplan::plan, table, &mut labels, space.next());
+    assert_eq!(answer, plan_with(port::plan, table, &mut port_labels, port_space.next()));
     assert_eq!(labels, port_labels);
     (times[0], times[1], answer)
 }
@@ -208,76 +234,74 @@ fn glpsol_maximum(file: &Path) -> Option<usize> {
     }
 }
 
+/// The old planner's time, and how many rows fewer it hears or that it finds no plan.
+fn old_planner(table: &Table, answer: Result<usize, Refusal>) -> (Spread, String) {
+    let mut labels = vec![0; table.rows()];
+    let mut old = Ok(0);
+    let mut call = || {
+        let table = black_box(table);
+        old = black_box(first_free::plan(
+            table.kind,
+            table.ticks,
+            &table.starts,
+            &table.ends,
+            &table.marks,
+            &mut labels,
+        ));
+    };
+    let time = measure(&mut [&mut call], 41)[0];
+    let fewer = match (answer, old) {
+        (Ok(count), Ok(old)) => (count - old).to_string(),
+        (_, old) => words(old),
+    };
+    (time, fewer)
+}
+
+/// The time of glpsol for one maximum of the table, and the same without the time that it needs for a program of one variable, run in turn.
+fn solver(folder: &Path, table: &Table, answer: Result<usize, Refusal>) -> (Spread, f64) {
+    let (least, file) = (folder.join("least.lp"), folder.join("table.lp"));
+    fs::write(&least, "Maximize\n heard: x\nSubject To\n row: x <= 1\nBinary\n x\nEnd\n").unwrap();
+    fs::write(&file, integer_program(table)).unwrap();
+    assert_eq!(glpsol_maximum(&file), answer.ok(), "glpsol's maximum");
+    let pairs: Vec<(f64, f64)> = (0..31).map(|_| (glpsol_once(&least), glpsol_once(&file))).collect();
+    let start = spread(pairs.iter().map(|pair| pair.0).collect()).median;
+    let whole = spread(pairs.iter().map(|pair| pair.1).collect());
+    (whole, (whole.median - start).max(1.0))
+}
+
 fn tables_of_64_rows(folder: &Path) {
     let version = glpsol_version();
     println!("## Tables of 64 rows\n");
     println!("One whole plan in microseconds of processor time: the median of repeated runs (lower to upper quartile).\n");
-    println!("| table | windows over a tick | heard | planner | hand port | planner / port | old planner | it hears fewer by | glpsol, one maximum | planner / glpsol |");
-    println!("|---|---|---|---|---|---|---|---|---|---|");
-    let start = version.as_ref().map(|_| {
-        let file = folder.join("start.lp");
-        fs::write(&file, "Maximize\n heard: x\nSubject To\n row: x <= 1\nBinary\n x\nEnd\n").unwrap();
-        spread((0..41).map(|_| glpsol_once(&file)).collect())
-    });
+    println!(
+        "| table | windows over a tick | heard | planner | hand port | planner / port | old planner | it hears fewer by \
+         | glpsol, one maximum | planner / glpsol | glpsol without its start | planner / that |"
+    );
+    println!("|---|---|---|---|---|---|---|---|---|---|---|---|");
     for (name, table) in benchmark_tables() {
         let (proved, ported, answer) = planners(&table, 41);
-        let mut labels = vec![0; table.rows()];
-        let mut old = Ok(0);
-        let mut old_call = || {
-            let table = black_box(&table);
-            old = black_box(first_free::plan(
-                table.kind,
-                table.ticks,
-                &table.starts,
-                &table.ends,
-                &table.marks,
-                &mut labels,
-            ));
-        };
-        let old_time = measure(&mut [&mut old_call], 41)[0];
-        let fewer = match (answer, old) {
-            (Ok(count), Ok(old)) => (count - old).to_string(),
-            (_, old) => words(old),
-        };
-        let (solver, share) = match start {
-            None => ("not installed".to_string(), "".to_string()),
-            Some(start) => {
-                let file = folder.join("table.lp");
-                fs::write(&file, integer_program(&table)).unwrap();
-                assert_eq!(glpsol_maximum(&file), answer.ok(), "{name}");
-                let time = spread((0..21).map(|_| glpsol_once(&file)).collect());
-                let net = (time.median - start.median).max(1.0);
-                (
-                    format!(
-                        "{} ({} to {})",
-                        micros(net),
-                        micros((time.low - start.median).max(0.0)),
-                        micros(time.high - start.median)
-                    ),
-                    format!("{:.3}", proved.median / net),
-                )
+        let (old, fewer) = old_planner(&table, answer);
+        let solved = match version {
+            None => "not installed | | |".to_string(),
+            Some(_) => {
+                let (whole, solving) = solver(folder, &table, answer);
+                let (of_whole, of_solving) = (proved.median / whole.median, proved.median / solving);
+                format!("{} | {of_whole:.3} | {} | {of_solving:.3}", whole.words(), micros(solving))
             }
         };
         let (low, high) = table.depth();
         println!(
-            "| {name} | {low} to {high} | {} | {} ({} to {}) | {} ({} to {}) | {:.2} | {} | {fewer} | {solver} | {share} |",
+            "| {name} | {low} to {high} | {} | {} | {} | {:.2} | {} | {fewer} | {solved} |",
             words(answer),
-            micros(proved.median),
-            micros(proved.low),
-            micros(proved.high),
-            micros(ported.median),
-            micros(ported.low),
-            micros(ported.high),
+            proved.words(),
+            ported.words(),
             proved.median / ported.median,
-            micros(old_time.median),
+            micros(old.median),
         );
     }
-    match (version, start) {
-        (Some(version), Some(start)) => println!(
-            "\nglpsol is {version}; its times are without the {} microseconds that it needs to start, read a file and end.",
-            micros(start.median)
-        ),
-        _ => println!("\nglpsol is not installed (Debian: apt-get install glpk-utils)."),
+    match version {
+        Some(version) => println!("\nglpsol is {version}."),
+        None => println!("\nglpsol is not installed (Debian: apt-get install glpk-utils)."),
     }
 }
 
@@ -336,7 +360,7 @@ fn instructions(folder: &Path) {
         return;
     };
     println!(
-        "Instructions of one plan, counted by {}; the same on every run.\n",
+        "Instructions of one plan, counted by {}; a run differs from the next by a dozen at most.\n",
         String::from_utf8_lossy(&version.stdout).trim()
     );
     println!("| table | planner | hand port | planner / port |");

@@ -1,6 +1,5 @@
 -- `reply::put` meets its contract. The loop's invariant: the first i bytes are put, and `at` is the place after them. The measure is how many bytes are left.
 use Prim.Native.Nat.{_-_, _≤_}
-use mathlib.Core.Path.{_≡_}
 use native.Mathlib.Omega.{arith}
 use lib.ListN.{length, take}
 use lib.Seq.{take-all, length-take-le}

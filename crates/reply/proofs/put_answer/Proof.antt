@@ -1,7 +1,6 @@
 -- `reply::put_answer` meets its contract: the line of a refusal, or the line of the count and then those of the rows.
-use mathlib.Core.Path.{_≡_, sym, ap, _∙_}
+use mathlib.Core.Path.{sym, _∙_}
 use native.Mathlib.Omega.{arith}
-use Rattle.table.specs.Refusals.{numberOf}
 use Rattle.reply.specs.Lines.{heardWord}
 use Rattle.reply.specs.Put.{answerOf}
 use Rattle.reply.proofs.Putting.{put-text, put-both, put-length, word-length}

@@ -1,8 +1,6 @@
 -- `reply::put_refused` meets its contract: a refusal's number is at most 11.
-use Prim.Native.Nat.{_≤_}
-use mathlib.Core.Path.{_≡_, ap, _∙_}
+use mathlib.Core.Path.{ap, _∙_}
 use native.Mathlib.Omega.{arith}
-use Rattle.table.specs.Refusals.{numberOf}
 use Rattle.reply.specs.Lines.{refusedWord, wordLine}
 use Rattle.reply.proofs.Putting.{put-text, number-most}
 use borrow.Author.Needs.{needs}

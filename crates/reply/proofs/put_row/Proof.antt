@@ -1,5 +1,5 @@
 -- `reply::put_row` meets its contract: number, blank, number and newline are put one after the other.
-use mathlib.Core.Path.{_≡_, ap}
+use mathlib.Core.Path.{ap}
 use native.Mathlib.Omega.{arith}
 use lib.ListN.{length-set}
 use Rattle.reply.specs.Lines.{decimal, rowLine}

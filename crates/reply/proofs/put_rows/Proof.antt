@@ -1,11 +1,11 @@
 -- `reply::put_rows` meets its contract. The loop's invariant: the lines of the first rows are put, and there is room for the others. The measure is how many rows are left.
 use Prim.Native.Nat.{_+_, _-_, _*_, _≤_}
-use mathlib.Core.Path.{_≡_, ap}
+use mathlib.Core.Path.{ap}
 use native.Mathlib.Omega.{arith}
 use lib.ListN.{length, take}
 use lib.Seq.{take-all}
 use Rattle.labels.specs.Labels.{at}
-use Rattle.reply.specs.Lines.{rowLine, rowLines}
+use Rattle.reply.specs.Lines.{rowLines}
 use Rattle.reply.specs.Put.{Put}
 use Rattle.reply.proofs.Putting.{put-none, put-text, put-length, put-row-more, row-length}
 use borrow.Author.Needs.{needs}

@@ -1,5 +1,5 @@
 -- `reply::reply` meets its contract: each way through the tests of the lengths is a way to compute `replied`.
-use mathlib.Core.Path.{_≡_, refl, _∙_}
+use mathlib.Core.Path.{refl, _∙_}
 use native.Mathlib.Omega.{arith}
 use Rattle.table.specs.declared.Refusal.the-variants.{Form}
 use Rattle.reply.specs.Replied.{places}

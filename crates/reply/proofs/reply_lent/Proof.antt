@@ -1,5 +1,5 @@
 -- `reply::reply_lent` meets its contract: what the reader reports is planned, and the rows fit the lists.
-use mathlib.Core.Path.{_≡_, refl, sym, _∙_}
+use mathlib.Core.Path.{refl, sym, _∙_}
 use native.Mathlib.Omega.{arith}
 use lib.Seq.{length-take-le}
 use Rattle.reply.proofs.Replying.{rows-fit, reader-refused, reader-accepted}

@@ -1,5 +1,5 @@
 -- `reply::reply_table` meets its contract: the lines of the planner's answer have room.
-use mathlib.Core.Path.{_≡_, sym, ap, _∙_, subst}
+use mathlib.Core.Path.{sym, ap, _∙_, subst}
 use native.Mathlib.Omega.{arith}
 use lib.ListN.{length}
 use Rattle.table.specs.Tables.{table}
