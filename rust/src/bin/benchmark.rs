@@ -103,40 +103,20 @@ fn plan_with(planner: Planner, table: &Table, labels: &mut [u8], space: &mut [u8
     planner(table.kind, table.ticks, &table.starts, &table.ends, &table.marks, labels, space)
 }
 
-/// Working space that starts at another place of its page on each call, since where it lies can matter to the processor.
-struct Moving {
-    bytes: Vec<u8>,
-    at: usize,
-}
-
-impl Moving {
-    fn new() -> Moving {
-        Moving {
-            bytes: vec![0; SPACE_BYTES + 4_096],
-            at: 0,
-        }
-    }
-
-    fn next(&mut self) -> &mut [u8] {
-        self.at = (self.at + 16 * 61) % 4_096;
-        &mut self.bytes[self.at..self.at + SPACE_BYTES]
-    }
-}
-
 /// The planner's and the port's time for a table; they must agree.
 fn planners(table: &Table, rounds: usize) -> (Spread, Spread, Result<usize, Refusal>) {
     let mut labels = vec![0; table.rows()];
     let mut port_labels = labels.clone();
-    let (mut space, mut port_space) = (Moving::new(), Moving::new());
+    let (mut space, mut port_space) = (vec![0; SPACE_BYTES], vec![0; SPACE_BYTES]);
     let mut proved_call = || {
-        let _ = black_box(plan_with(hubplan::plan, black_box(table), &mut labels, space.next()));
+        let _ = black_box(plan_with(hubplan::plan, black_box(table), &mut labels, &mut space));
     };
     let mut port_call = || {
-        let _ = black_box(plan_with(port::plan, black_box(table), &mut port_labels, port_space.next()));
+        let _ = black_box(plan_with(port::plan, black_box(table), &mut port_labels, &mut port_space));
     };
     let times = measure(&mut [&mut proved_call, &mut port_call], rounds);
-    let answer = plan_with(hubplan::plan, table, &mut labels, space.next());
-    assert_eq!(answer, plan_with(port::plan, table, &mut port_labels, port_space.next()));
+    let answer = plan_with(hubplan::plan, table, &mut labels, &mut space);
+    assert_eq!(answer, plan_with(port::plan, table, &mut port_labels, &mut port_space));
     assert_eq!(labels, port_labels);
     (times[0], times[1], answer)
 }
@@ -360,7 +340,7 @@ fn instructions(folder: &Path) {
         return;
     };
     println!(
-        "Instructions of one plan, counted by {}; a run differs from the next by a dozen at most.\n",
+        "Instructions of one plan, counted by {}; runs differ by a dozen or so.\n",
         String::from_utf8_lossy(&version.stdout).trim()
     );
     println!("| table | planner | hand port | planner / port |");
