@@ -1,6 +1,6 @@
 // The cases P1 to P12 of paper 01's bench table, compiled and run.
-use crate::calls::in_round;
-use crate::calls::in_run;
+use trial_calls::in_round;
+use trial_calls::in_run;
 use trial_report::Group;
 use trial_report::no_cases;
 use trial_report::with_case;

@@ -1,10 +1,10 @@
 // The edges of paper 01: R, rows, working space, ends, marks, hours, lists of unequal lengths.
-use crate::calls::LENT_BYTES;
-use crate::calls::first_bytes;
-use crate::calls::first_words;
-use crate::calls::in_round;
-use crate::calls::in_run;
-use crate::calls::is_planned;
+use trial_calls::LENT_BYTES;
+use trial_calls::first_bytes;
+use trial_calls::first_words;
+use trial_calls::in_round;
+use trial_calls::in_run;
+use trial_calls::is_planned;
 use trial_report::Group;
 use trial_report::no_cases;
 use trial_report::with_case;

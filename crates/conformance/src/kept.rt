@@ -1,8 +1,8 @@
 // Labels and working space after each refusal of the planner and after a plan: the table of P2 with one fault each.
 // Every call is judged with both filled with a pattern before it, and with more bytes than the planner needs (but for refusal 3).
-use crate::calls::LENT_BYTES;
-use crate::calls::in_run;
-use crate::calls::is_planned;
+use trial_calls::LENT_BYTES;
+use trial_calls::in_run;
+use trial_calls::is_planned;
 use trial_report::Group;
 use trial_report::no_cases;
 use trial_report::with_case;

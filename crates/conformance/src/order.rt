@@ -1,9 +1,9 @@
 // Which of several faults of a call is reported: the order of refusals of the planner and of the plan tape writer.
-use crate::calls::LENT_BYTES;
-use crate::calls::first_words;
-use crate::calls::in_round;
-use crate::calls::is_planned;
-use crate::calls::is_taped;
+use trial_calls::LENT_BYTES;
+use trial_calls::first_words;
+use trial_calls::in_round;
+use trial_calls::is_planned;
+use trial_calls::is_taped;
 use trial_report::Group;
 use trial_report::no_cases;
 use trial_report::with_case;

@@ -1,5 +1,5 @@
 // The plan tape of paper 01's session, and labels that the writer refuses and accepts.
-use crate::calls::is_taped;
+use trial_calls::is_taped;
 use trial_report::Group;
 use trial_report::no_cases;
 use trial_report::with_case;

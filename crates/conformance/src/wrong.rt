@@ -1,6 +1,6 @@
 // "Plausible and wrong" of paper 01: for each line a case that the wrong method fails, with the right answer, which is compared.
-use crate::calls::in_round;
-use crate::calls::in_run;
+use trial_calls::in_round;
+use trial_calls::in_run;
 use trial_report::Group;
 use trial_report::no_cases;
 use trial_report::with_case;

@@ -1,0 +1,151 @@
+// Small tables whose answers are compared with those of the brute force, and of how many of them each fact holds.
+use crate::drawn;
+use crate::drawn::Table;
+use brute_force::plans::Found;
+use brute_force::plans::changed;
+use trial_calls::LENT_BYTES;
+use trial_calls::first_bytes;
+use trial_calls::first_words;
+use trial_calls::is_planned;
+use trial_report::more;
+use window::Kind;
+
+pub const TABLES: u32 = 8000;
+
+// Of how many tables each fact holds, and the state of the sequence.
+pub struct Tally {
+    pub none: u32,
+    pub must: u32,
+    pub hours: u32,
+    pub crossing: u32,
+    pub tied: u32,
+    pub differ: u32,
+    state: u64,
+}
+
+fn kind_of(run: bool) -> Kind {
+    if run { Kind::Run } else { Kind::Round }
+}
+
+fn brute_kind_of(run: bool) -> brute_force::windows::Kind {
+    if run {
+        brute_force::windows::Kind::Run
+    } else {
+        brute_force::windows::Kind::Round
+    }
+}
+
+fn pairs(hours: [u16; 4]) -> [[u16; 2]; 2] {
+    [[hours[0], hours[1]], [hours[2], hours[3]]]
+}
+
+// What the brute force finds with marks and hours that need not be the table's.
+fn found(t: Table, marks: &[u8; 8], hours: [u16; 4]) -> Found {
+    let starts = t.starts;
+    let ends = t.ends;
+    brute_force::best_plan(
+        brute_kind_of(t.run),
+        t.ticks,
+        t.rows,
+        &starts,
+        &ends,
+        marks,
+        pairs(hours),
+    )
+}
+
+// The number of the answer: refusal 8 if there is no plan.
+fn number(found: Found) -> u8 {
+    if found.answer == 0 { 8 } else { 0 }
+}
+
+// How many labels the answer has.
+fn labelled(found: Found, rows: usize) -> usize {
+    if found.answer == 0 { 0 } else { rows }
+}
+
+// The planner's answer, whole, is what the brute force finds.
+fn is_found(t: Table, found: Found) -> bool {
+    let n = t.rows;
+    let starts = t.starts;
+    let ends = t.ends;
+    let marks = t.marks;
+    let hours = t.hours;
+    let labels = found.labels;
+    is_planned(
+        kind_of(t.run),
+        t.ticks,
+        pairs(hours),
+        first_words(&starts, n),
+        first_words(&ends, n),
+        first_bytes(&marks, n),
+        n,
+        LENT_BYTES,
+        number(found),
+        first_bytes(&labels, labelled(found, n)),
+    )
+}
+
+// One more if the row is heard and its window goes on from R-1 to tick 0.
+fn with_row(n: u32, run: bool, start: u16, end: u16, label: u8) -> u32 {
+    if run {
+        return n;
+    }
+    if end == 0 {
+        return n;
+    }
+    if label == 0 {
+        return n;
+    }
+    more(n, end < start)
+}
+
+// How many rows are heard over the end of the day.
+fn crossing(t: Table, labels: &[u8; 8]) -> u32 {
+    let starts = t.starts;
+    let ends = t.ends;
+    let run = t.run;
+    let mut n = 0;
+    for i in 0..8 {
+        n = with_row(n, run, starts[i], ends[i], labels[i]);
+    }
+    n
+}
+
+// One table more is compared.
+fn with_table(tally: Tally) -> Tally {
+    let t = drawn::draw(tally.state);
+    let marks = t.marks;
+    let hours = t.hours;
+    let ticks = t.ticks;
+    let right = found(t, &marks, hours);
+    let labels = right.labels;
+    let no_must = found(t, &[0u8; 8], hours);
+    let all_day = found(t, &marks, [0, ticks, 0, ticks]);
+    Tally {
+        none: more(tally.none, right.answer == 0),
+        must: more(tally.must, changed(right, no_must)),
+        hours: more(tally.hours, changed(right, all_day)),
+        crossing: more(tally.crossing, 1 < crossing(t, &labels)),
+        tied: more(tally.tied, 1 < right.best),
+        differ: more(tally.differ, !is_found(t, right)),
+        state: t.state,
+    }
+}
+
+// All tables are compared.
+pub fn tables() -> Tally {
+    let mut tally = Tally {
+        none: 0,
+        must: 0,
+        hours: 0,
+        crossing: 0,
+        tied: 0,
+        differ: 0,
+        state: 149,
+    };
+    for turn in 0..TABLES {
+        tally = with_table(tally);
+    }
+    tally
+}
