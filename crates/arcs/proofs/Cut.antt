@@ -8,8 +8,8 @@ use native.Mathlib.Omega.{arith}
 use lib.Dec.{leb}
 use borrow.Author.Tests.{le-leb, lt-leb}
 use lib.ListN.{length}
-use Rattle.labels.specs.Labels.{at}
-use Rattle.labels.proofs.Tests.{Test, pass, fail, test, leb-iff, and-iff, or-iff}
+use Rattle.basics.specs.Lists.{at}
+use Rattle.basics.proofs.Tests.{Test, pass, fail, test, leb-iff, and-iff, or-iff}
 use Rattle.window.specs.Ticks.{distance}
 use Rattle.arcs.specs.Arcs.{Meet, Arcs}
 use Rattle.arcs.specs.Positions.{endOf, crosses, clear, Placed}

@@ -2,6 +2,5 @@
 pub mod Steps
 pub mod Meets
 pub mod Cut
-pub mod Written
-pub mod Swap
+pub mod Rearranging
 pub mod Sorting

@@ -4,7 +4,7 @@ use mathlib.Core.Path.{_≡_}
 use mathlib.Core.Logic.{_↔_, _⊎_, inl, inr, Iff·trans}
 use mathlib.Core.Bool.{Bool, true}
 use native.Mathlib.Omega.{arith}
-use Rattle.labels.proofs.Tests.{Test, pass, fail, test, ltb-iff, or-iff}
+use Rattle.basics.proofs.Tests.{Test, pass, fail, test, ltb-iff, or-iff}
 use Rattle.window.specs.Ticks.{distance}
 use Rattle.arcs.specs.Arcs.{Covers, Meet, meets}
 use Rattle.arcs.proofs.Steps.{Steps, direct, round, steps, reaches, only-steps}

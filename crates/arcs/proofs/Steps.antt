@@ -1,11 +1,10 @@
 -- `distance` by cases, so that all that follows is linear: a tick after the start is reached directly, a tick before it past the end of the circle.
-use Prim.Native.Nat.{ℕ, _+_, _%_, _≤_, _<_}
-use mathlib.Core.Path.{_≡_, refl, _∙_}
-use mathlib.Core.Bool.{Bool, true, false}
+use Prim.Native.Nat.{ℕ, _+_, _%_, _<_}
+use mathlib.Core.Path.{_≡_, _∙_}
+use mathlib.Core.Bool.{Bool}
 use native.Mathlib.Omega.{arith}
 use native.Mathlib.Nat.{mod-eq-of-lt}
-use lib.Dec.{leb}
-use Rattle.labels.proofs.Tests.{Test, pass, fail, test}
+use Rattle.basics.proofs.Tests.{Test, pass, fail, test}
 use Rattle.window.specs.Ticks.{Ticks, distance}
 use Rattle.window.proofs.Circle.{wrap, distance-after, distance-before}
 

@@ -5,7 +5,8 @@ use mathlib.Core.Bool.{Bool, true, _||_}
 use mathlib.Core.List.{List}
 use lib.Dec.{ltb}
 use lib.ListN.{length}
-use Rattle.labels.specs.Labels.{at, Assignment}
+use Rattle.basics.specs.Lists.{at}
+use Rattle.labels.specs.Labels.{Assignment}
 use Rattle.labels.specs.Permission.{permits}
 use Rattle.window.specs.Ticks.{distance}
 

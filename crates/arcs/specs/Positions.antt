@@ -5,7 +5,7 @@ use mathlib.Core.Bool.{Bool, false, cond, _&&_, _||_}
 use mathlib.Core.List.{List}
 use lib.Dec.{leb}
 use lib.ListN.{length}
-use Rattle.labels.specs.Labels.{at}
+use Rattle.basics.specs.Lists.{at}
 use Rattle.window.specs.Ticks.{distance}
 
 -- where an arc of n ticks at position p ends: past the end of the circle it goes on at position 0

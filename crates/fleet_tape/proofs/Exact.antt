@@ -11,12 +11,13 @@ use lib.Dec.{leb}
 use lib.ListN.{length, take, drop, length-map}
 use lib.Seq.{take-at}
 use Rattle.window.specs.declared.Kind.{Kind}
-use Rattle.table.specs.declared.Refusal.the-variants.{Accepted, Lists, Rows, Form}
-use Rattle.table.specs.Refusals.{numberOf}
+use Rattle.refusals.specs.declared.Refusal.the-variants.{Accepted, Lists, Rows, Form}
+use Rattle.refusals.specs.Refusals.{numberOf}
 use Rattle.fleet_tape.specs.Fleet.{Row, fleetTape, Bytes, Fits, startsOf, endsOf, marksOf, rowsOfLists, firstRows}
 use Rattle.fleet_tape.specs.Form.{Fleet, fleet, hoursIn, fleetOf}
 use Rattle.fleet_tape.specs.Scan.{Places}
-use Rattle.fleet_tape.specs.Reading.{Reading, reading, refused, filled, taken, judged, hasPlaces, fleetRead}
+use Rattle.fleet_tape.specs.Reading.{Reading, reading, refused, taken, judged, hasPlaces, fleetRead}
+use Rattle.basics.specs.Lists.{front}
 use Rattle.fleet_tape.proofs.Parsed.{fleet-back, FleetStands, FleetKnown, fleet-known}
 
 -- ---- a tape of the form
@@ -54,19 +55,19 @@ rows-again : (rows : List Row) → rowsOfLists (startsOf rows) (endsOf rows) (ma
 rows-again [] = refl
 rows-again (row ∷ rows) = ap (λ (r : List Row). row ∷ r) (rows-again rows)
 
-taken-front : (f : Row → ℕ) (rows : List Row) (before : List ℕ) → take (length rows) (filled (map f rows) before) ≡ map f rows
+taken-front : (f : Row → ℕ) (rows : List Row) (before : List ℕ) → take (length rows) (front (map f rows) before) ≡ map f rows
 taken-front f rows before = take-at (map f rows) (drop (length (map f rows)) before) (length rows) (length-map rows f)
 
 first-rows : (rows : List Row) (starts ends marks : List ℕ)
-    → firstRows (length rows) (filled (startsOf rows) starts) (filled (endsOf rows) ends) (filled (marksOf rows) marks) ≡ rows
+    → firstRows (length rows) (front (startsOf rows) starts) (front (endsOf rows) ends) (front (marksOf rows) marks) ≡ rows
 first-rows rows starts ends marks =
     rw (taken-front (λ row. row .start) rows starts, taken-front (λ row. row .end) rows ends, taken-front (λ row. row .mark) rows marks) (rows-again rows)
 
--- the rows that a call reports and has filled in
+-- the rows that a call reports and has front in
 abbrev pub rowsGiven : Reading → List Row
 rowsGiven out = firstRows (out .report .rows) (out .starts) (out .ends) (out .marks)
 
--- The tape is the fleet tape of what was reported and filled in.
+-- The tape is the fleet tape of what was reported and front in.
 pub record Stated (tape : List ℕ) (out : Reading) : Type 0 where
   pub tape-is : tape ≡ fleetTape (out .report .kind) (out .report .ticks) (out .report .hours) (rowsGiven out)
   pub fits : Fits (out .report .ticks) (out .report .hours) (rowsGiven out)
@@ -102,7 +103,7 @@ module _ (tape starts ends marks : List ℕ) (b : Bytes tape) where
   placed-stated true a = judged-stated (fleetOf tape) (fleet-known tape b) a
   placed-stated false a = let z : _≡_ {A = ℕ} 1 0 = ap numberOf a in absurd (omega arith)
 
-  -- A tape that is accepted is the fleet tape of what was reported and filled in.
+  -- A tape that is accepted is the fleet tape of what was reported and front in.
   pub accepted-only : fleetRead tape starts ends marks .report .refusal ≡ Accepted → Stated tape (fleetRead tape starts ends marks)
   unfolding fleetRead
   accepted-only = placed-stated (hasPlaces (length starts) (length ends) (length marks))

@@ -10,7 +10,7 @@ use borrow.Author.Tests.{lt-ltb, le-ltb}
 use lib.Dec.{eqb}
 use lib.ListN.{length, getD, drop, length-drop}
 use lib.Seq.{getD-drop}
-use Rattle.labels.proofs.Tests.{and-iff, ltb-iff, eqb-iff}
+use Rattle.basics.proofs.Tests.{and-iff, ltb-iff, eqb-iff}
 use Rattle.tape.specs.Commands.{operandBytes}
 use Rattle.fleet_tape.specs.Form.{begins, wordAt}
 

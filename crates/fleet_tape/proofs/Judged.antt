@@ -8,17 +8,19 @@ use native.Mathlib.Omega.{arith}
 use borrow.Author.Tests.{le-leb, lt-leb}
 use lib.ListN.{length, drop}
 use lib.Seq.{drop-drop}
-use Rattle.labels.proofs.Tests.{and-iff, eqb-iff}
+use Rattle.basics.proofs.Tests.{and-iff, eqb-iff}
 use Rattle.window.specs.declared.Kind.{Kind}
 use Rattle.window.specs.declared.Kind.the-variants.{Round, Run}
-use Rattle.table.specs.declared.Refusal.the-variants.{Accepted, Lists, Rows, Form}
+use Rattle.refusals.specs.declared.Refusal.the-variants.{Accepted, Lists, Rows, Form}
 use Rattle.tape.specs.Commands.{ROUND, RUN, HOURS, operandBytes}
 use Rattle.fleet_tape.specs.declared.Report.{Report}
 use Rattle.fleet_tape.specs.declared.Scanned.the-variants.{Count, Broken}
 use Rattle.fleet_tape.specs.Fleet.{Row, startsOf, endsOf, marksOf}
-use Rattle.fleet_tape.specs.Form.{begins, wordAt, hoursOf, noHours, rowsOf, stated, fleetOf}
+use Rattle.fleet_tape.specs.Form.{begins, wordAt, hoursOf, rowsOf, stated, fleetOf}
+use Rattle.window.specs.Hours.{noHours}
 use Rattle.fleet_tape.specs.Scan.{counted, listed, Places}
-use Rattle.fleet_tape.specs.Reading.{Reading, reading, refused, filled, taken, judged, hasPlaces, fleetRead}
+use Rattle.fleet_tape.specs.Reading.{Reading, reading, refused, taken, judged, hasPlaces, fleetRead}
+use Rattle.basics.specs.Lists.{front}
 use Rattle.fleet_tape.proofs.Heads.{begins-iff, begins-at}
 
 -- ---- the rows
@@ -41,7 +43,7 @@ module _ (kind : Kind) (R : ℕ) (hours : List (List ℕ)) (starts ends marks : 
   read-many (some rows) n e h = let z : length rows ≡ n = cc in rw (lt-leb (length rows) 64 (omega arith))
 
   pub read-taken : (o : Option (List Row)) (n : ℕ) → counted o ≡ Count n → n ≤ 64
-      → answer o ≡ reading (record { refusal = Accepted; kind = kind; ticks = R; hours = hours; rows = n }) (filled (startsOf (listed o)) starts) (filled (endsOf (listed o)) ends) (filled (marksOf (listed o)) marks)
+      → answer o ≡ reading (record { refusal = Accepted; kind = kind; ticks = R; hours = hours; rows = n }) (front (startsOf (listed o)) starts) (front (endsOf (listed o)) ends) (front (marksOf (listed o)) marks)
   unfolding judged taken
   read-taken none n e h = let z : _≡_ {A = ℕ} 0 1 = cc in absurd (omega arith)
   read-taken (some rows) n e h = let z : length rows ≡ n = cc in rw (le-leb (length rows) 64 (omega arith), z)

@@ -10,14 +10,15 @@ use native.Mathlib.Omega.{arith}
 use lib.Dec.{eqb}
 use lib.ListN.{length, getD, drop}
 use lib.Seq.{drop-cons, getD-drop}
-use Rattle.labels.proofs.Tests.{and-iff, or-iff, eqb-iff}
+use Rattle.basics.proofs.Tests.{and-iff, or-iff, eqb-iff}
 use Rattle.window.specs.declared.Kind.{Kind}
 use Rattle.window.specs.declared.Kind.the-variants.{Round, Run}
 use Rattle.tape.specs.Commands.{ROUND, RUN, WINDOW, MUST, HOURS, STOP, operandBytes}
 use Rattle.tape.specs.Words.{joined, highByte, lowByte}
 use Rattle.tape.proofs.Joined.{joined-word}
 use Rattle.fleet_tape.specs.Fleet.{Row, rowCommand, rowsTape, hoursTape, fleetTape, Bytes, RowsFit, HoursFit, Fits}
-use Rattle.fleet_tape.specs.Form.{isRow, markOf, put, rowsOf, Fleet, fleet, stated, begins, wordAt, hoursOf, noHours, hoursIn, fleetOf}
+use Rattle.window.specs.Hours.{hoursFrom, noHours}
+use Rattle.fleet_tape.specs.Form.{isRow, markOf, put, rowsOf, Fleet, fleet, stated, begins, wordAt, hoursOf, hoursIn, fleetOf}
 use Rattle.fleet_tape.proofs.Heads.{begins-iff}
 
 -- ---- from what is stated to the tape and back
@@ -38,18 +39,15 @@ unfolding rowsOf rowsTape
 rows-back [] f = refl
 rows-back (row ∷ rows) f = row-back row (rowsOf (rowsTape rows ++ (STOP ∷ []))) (f .0 .mark-1) ∙ ap (put row) (rows-back rows (f .1))
 
-abbrev pairs : ℕ → ℕ → ℕ → ℕ → List (List ℕ)
-pairs p1 q1 p2 q2 = (p1 ∷ q1 ∷ []) ∷ (p2 ∷ q2 ∷ []) ∷ []
-
 not-round : (s : List ℕ) → getD s 0 0 ≡ RUN → begins ROUND s ≡ false
 unfolding begins
 not-round s e = rw (e, and-false)
 
 module _ (R : ℕ) (rows : List Row) (f : RowsFit rows) where
-  run-back : (p1 q1 p2 q2 : ℕ) → fleetOf (fleetTape Run R (pairs p1 q1 p2 q2) rows) ≡ some (fleet Run R (pairs p1 q1 p2 q2) rows)
+  run-back : (p1 q1 p2 q2 : ℕ) → fleetOf (fleetTape Run R (hoursFrom p1 q1 p2 q2) rows) ≡ some (fleet Run R (hoursFrom p1 q1 p2 q2) rows)
   unfolding fleetOf fleetTape operandBytes
   run-back p1 q1 p2 q2 =
-      let s = fleetTape Run R (pairs p1 q1 p2 q2) rows in
+      let s = fleetTape Run R (hoursFrom p1 q1 p2 q2) rows in
       rw (not-round s refl, begins-iff RUN s .1 (omega arith, refl), begins-iff HOURS (drop 3 s) .1 (omega arith, refl)) (rw (joined-word R, joined-word p1, joined-word q1, joined-word p2, joined-word q2, rows-back rows f))
 
   round-back : (hours : List (List ℕ)) → fleetOf (fleetTape Round R hours rows) ≡ some (fleet Round R noHours rows)

@@ -12,14 +12,14 @@ use borrow.Author.Tests.{lt-ltb, eq-eqb}
 use lib.Dec.{eqb}
 use lib.ListN.{length, getD, drop, set, length-drop, length-map}
 use lib.Seq.{drop-drop, sets, sets-eq}
-use Rattle.labels.proofs.Tests.{and-iff, or-iff, eqb-iff}
+use Rattle.basics.proofs.Tests.{and-iff, or-iff, eqb-iff}
 use Rattle.tape.specs.Commands.{WINDOW, MUST, STOP, operandBytes}
 use Rattle.fleet_tape.specs.declared.Scanned.{Scanned}
 use Rattle.fleet_tape.specs.declared.Scanned.the-variants.{Count, Broken}
 use Rattle.fleet_tape.specs.Fleet.{Row}
 use Rattle.fleet_tape.specs.Form.{begins, wordAt, isRow, markOf, put, rowsOf}
 use Rattle.fleet_tape.specs.Scan.{rowFirst, stopLast, counted, listed}
-use Rattle.fleet_tape.specs.Reading.{filled}
+use Rattle.basics.specs.Lists.{front}
 use Rattle.fleet_tape.proofs.Heads.{begins-iff, first-at, word-at}
 
 -- a row stands first: its command and its operands are there
@@ -171,7 +171,7 @@ fill-more f n l i = rw (n .rows, add-one i) refl
 pub fill-done : (f : Row → ℕ) (o : Option (List Row)) (l : List ℕ) (i : ℕ) → counted o ≡ Count 0 → sets l i (map f (listed o)) ≡ l
 fill-done f o l i e = rw (none-left o e) refl
 
-pub fill-all : (f : Row → ℕ) (o : Option (List Row)) (n : ℕ) (l : List ℕ) → counted o ≡ Count n → n ≤ length l → sets l 0 (map f (listed o)) ≡ filled (map f (listed o)) l
+pub fill-all : (f : Row → ℕ) (o : Option (List Row)) (n : ℕ) (l : List ℕ) → counted o ≡ Count n → n ≤ length l → sets l 0 (map f (listed o)) ≡ front (map f (listed o)) l
 fill-all f o n l e h =
     sets-eq (map f (listed o)) l 0 (omega (arith, length-map (listed o) f, length-listed o n e))
     ∙ ap (λ (k : ℕ). map f (listed o) ++ drop k l) (zero-add (length (map f (listed o))))

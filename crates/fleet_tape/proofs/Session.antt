@@ -4,9 +4,9 @@ use mathlib.Core.Path.{_≡_, refl}
 use mathlib.Core.List.{List, [], _∷_, _++_}
 use lib.ListN.{replicate}
 use Rattle.window.specs.declared.Kind.the-variants.{Round, Run}
-use Rattle.table.specs.declared.Refusal.the-variants.{Accepted}
+use Rattle.refusals.specs.declared.Refusal.the-variants.{Accepted}
 use Rattle.fleet_tape.specs.Fleet.{Row, fleetTape}
-use Rattle.fleet_tape.specs.Form.{noHours}
+use Rattle.window.specs.Hours.{noHours}
 use Rattle.fleet_tape.specs.Reading.{reading, fleetRead}
 
 abbrev row : ℕ → ℕ → ℕ → Row

@@ -5,7 +5,7 @@ use mathlib.Core.List.{List, [], _∷_, _++_, map}
 use lib.ListN.{getD, take}
 use Rattle.window.specs.declared.Kind.{Kind}
 use Rattle.window.specs.declared.Kind.the-variants.{Round, Run}
-use Rattle.table.specs.Tables.{hour}
+use Rattle.window.specs.Hours.{hour, hoursFrom}
 use Rattle.tape.specs.Commands.{ROUND, RUN, WINDOW, MUST, HOURS, STOP}
 use Rattle.tape.specs.Words.{word}
 
@@ -65,7 +65,7 @@ pub record HoursFit (hours : List (List ℕ)) : Type 0 where
   pub q1 : ℕ
   pub p2 : ℕ
   pub q2 : ℕ
-  pub pairs : hours ≡ (p1 ∷ q1 ∷ []) ∷ (p2 ∷ q2 ∷ []) ∷ []
+  pub pairs : hours ≡ hoursFrom p1 q1 p2 q2
   pub p1-16 : p1 < 65536
   pub q1-16 : q1 < 65536
   pub p2-16 : p2 < 65536

@@ -2,11 +2,12 @@
 use Prim.Native.Nat.{ℕ, _+_}
 use mathlib.Core.Bool.{Bool, cond, _&&_, _||_}
 use mathlib.Core.List.{List, [], _∷_}
-use mathlib.Core.Option.{Option, none, some}
+use mathlib.Core.Option.{Option, none, some, Option·map}
 use lib.Dec.{ltb, eqb}
 use lib.ListN.{length, getD, drop}
 use Rattle.window.specs.declared.Kind.{Kind}
 use Rattle.window.specs.declared.Kind.the-variants.{Round, Run}
+use Rattle.window.specs.Hours.{hoursFrom, noHours}
 use Rattle.tape.specs.Commands.{ROUND, RUN, WINDOW, MUST, HOURS, STOP, operandBytes}
 use Rattle.tape.specs.Words.{joined}
 use Rattle.fleet_tape.specs.Fleet.{Row}
@@ -21,9 +22,9 @@ isRow command = eqb command WINDOW || eqb command MUST
 abbrev pub markOf : ℕ → ℕ
 markOf command = cond (eqb command MUST) 1 0
 
+-- a row before the others
 abbrev pub put : Row → Option (List Row) → Option (List Row)
-put row none = none
-put row (some rows) = some (row ∷ rows)
+put row = Option·map (λ rows. row ∷ rows)
 
 -- "WINDOW and MUST in row order; STOP as the last byte": a row is a command and four bytes, and what is left at the end is STOP alone
 unfoldable pub rowsOf : List ℕ → Option (List Row)
@@ -66,10 +67,7 @@ wordAt s i = joined (getD s i 0) (getD s (i + 1) 0)
 
 -- "HOURS: p1, q1, p2, q2 (16 each)"
 abbrev pub hoursOf : List ℕ → List (List ℕ)
-hoursOf s = (wordAt s 1 ∷ wordAt s 3 ∷ []) ∷ (wordAt s 5 ∷ wordAt s 7 ∷ []) ∷ []
-
-abbrev pub noHours : List (List ℕ)
-noHours = (0 ∷ 0 ∷ []) ∷ (0 ∷ 0 ∷ []) ∷ []
+hoursOf s = hoursFrom (wordAt s 1) (wordAt s 3) (wordAt s 5) (wordAt s 7)
 
 -- "hours (all 0 in a round)"
 abbrev pub hoursIn : Kind → List (List ℕ) → List (List ℕ)

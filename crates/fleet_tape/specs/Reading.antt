@@ -1,16 +1,18 @@
 -- The right answer of a call of the fleet tape reader, whole: the report and what the three lists then hold, on every input.
 use Prim.Native.Nat.{ℕ}
 use mathlib.Core.Bool.{Bool, cond, _&&_}
-use mathlib.Core.List.{List, _++_}
+use mathlib.Core.List.{List}
 use mathlib.Core.Option.{Option, none, some}
 use lib.Dec.{leb, eqb}
-use lib.ListN.{length, drop}
+use lib.ListN.{length}
+use Rattle.basics.specs.Lists.{front}
 use Rattle.window.specs.declared.Kind.the-variants.{Round}
-use Rattle.table.specs.declared.Refusal.{Refusal}
-use Rattle.table.specs.declared.Refusal.the-variants.{Accepted, Lists, Rows, Form}
+use Rattle.refusals.specs.declared.Refusal.{Refusal}
+use Rattle.refusals.specs.declared.Refusal.the-variants.{Accepted, Lists, Rows, Form}
 use Rattle.fleet_tape.specs.declared.Report.{Report}
 use Rattle.fleet_tape.specs.Fleet.{startsOf, endsOf, marksOf}
-use Rattle.fleet_tape.specs.Form.{Fleet, fleetOf, noHours}
+use Rattle.fleet_tape.specs.Form.{Fleet, fleetOf}
+use Rattle.window.specs.Hours.{noHours}
 
 -- what a call gives
 pub record Reading : Type 0 where
@@ -37,17 +39,13 @@ accepted fleet =
       rows = length (fleet .rows);
     }
 
--- "fills .. for the rows present, leaves the other places untouched"
-abbrev pub filled : List ℕ → List ℕ → List ℕ
-filled present before = present ++ drop (length present) before
-
--- "fills starts, ends and marks"
+-- "fills starts, ends and marks .. for the rows present, leaves the other places untouched"
 unfoldable pub taken : Fleet → List ℕ → List ℕ → List ℕ → Reading
 taken fleet starts ends marks =
     reading (accepted fleet)
-    (filled (startsOf (fleet .rows)) starts)
-    (filled (endsOf (fleet .rows)) ends)
-    (filled (marksOf (fleet .rows)) marks)
+    (front (startsOf (fleet .rows)) starts)
+    (front (endsOf (fleet .rows)) ends)
+    (front (marksOf (fleet .rows)) marks)
 
 -- "11: a fleet tape not of the form above"; "2: more than 64 rows"
 unfoldable pub judged : Option Fleet → List ℕ → List ℕ → List ℕ → Reading

@@ -1,12 +1,13 @@
-// The reader of fleet tapes: the form is judged to the end of the tape, and then the lists are filled.
+// The reader of fleet tapes: the form is judged to the end of the tape, and then the lists are front.
 ghost use mathlib.Core.Path.{_≡_};
 ghost use Prim.Native.Nat.{_+_};
 ghost use lib.ListN.{drop};
 ghost use Rattle.fleet_tape.specs.Fleet.{startsOf, endsOf, marksOf};
 ghost use Rattle.fleet_tape.specs.Form.{begins, wordAt, hoursOf, markOf, rowsOf, stated};
 ghost use Rattle.fleet_tape.specs.Scan.{rowFirst, stopLast, counted, listed, Inside, Places, Fillable};
-ghost use Rattle.fleet_tape.specs.Reading.{hasPlaces, refused, filled, reading, judged, fleetRead};
-use table::Refusal;
+ghost use Rattle.fleet_tape.specs.Reading.{hasPlaces, refused, reading, judged, fleetRead};
+ghost use Rattle.basics.specs.Lists.{front};
+use refusals::Refusal;
 use tape::HOURS;
 use tape::MUST;
 use tape::ROUND;
@@ -158,9 +159,9 @@ fn fill_rows(
     marks: &mut [u8],
 )
     requires { ⌜ Fillable (now tape) from rows (now starts) (now ends) (now marks) ⌝ }
-    ensures { λ r. ⌜ now (starts .exit) ≡ filled (startsOf (listed (rowsOf (drop from (now (tape .entry)))))) (now (starts .entry)) ⌝ }
-    ensures { λ r. ⌜ now (ends .exit) ≡ filled (endsOf (listed (rowsOf (drop from (now (tape .entry)))))) (now (ends .entry)) ⌝ }
-    ensures { λ r. ⌜ now (marks .exit) ≡ filled (marksOf (listed (rowsOf (drop from (now (tape .entry)))))) (now (marks .entry)) ⌝ }
+    ensures { λ r. ⌜ now (starts .exit) ≡ front (startsOf (listed (rowsOf (drop from (now (tape .entry)))))) (now (starts .entry)) ⌝ }
+    ensures { λ r. ⌜ now (ends .exit) ≡ front (endsOf (listed (rowsOf (drop from (now (tape .entry)))))) (now (ends .entry)) ⌝ }
+    ensures { λ r. ⌜ now (marks .exit) ≡ front (marksOf (listed (rowsOf (drop from (now (tape .entry)))))) (now (marks .entry)) ⌝ }
 {
     let mut at = from;
     let mut row: usize = 0;

@@ -119,7 +119,7 @@ fn head_right(a: Head, b: Head) -> bool {
 
 fn report_right(report: Report, refusal: u8, head: Head, rows: usize) -> bool {
     let reported = report.refusal;
-    if table::number(reported) != refusal {
+    if refusals::number(reported) != refusal {
         return false;
     }
     if report.rows != rows {

@@ -1,12 +1,11 @@
 -- How an answer, a report and the receivers' open hours are handed over to C: by numbers alone.
-use Prim.Native.Nat.{ℕ}
 use mathlib.Core.Bool.{Bool, true, false}
-use mathlib.Core.List.{List, [], _∷_}
+use mathlib.Core.List.{[]}
 use Rattle.window.specs.declared.Kind.{Kind}
 use Rattle.window.specs.declared.Kind.the-variants.{Round, Run}
-use Rattle.table.specs.declared.Answer.{Answer}
-use Rattle.table.specs.Refusals.{numberOf}
-use Rattle.table.specs.Tables.{hour}
+use Rattle.refusals.specs.declared.Answer.{Answer}
+use Rattle.refusals.specs.Refusals.{numberOf}
+use Rattle.window.specs.Hours.{hour}
 use Rattle.fleet_tape.specs.declared.Report.{Report}
 use Rattle.hub_c.specs.declared.HubAnswer.{HubAnswer}
 use Rattle.hub_c.specs.declared.HubReport.{HubReport}
@@ -32,11 +31,3 @@ handedReport report =
       q2 = hour (report .hours) 1 1;
       rows = report .rows;
     }
-
--- "the two receivers' open hours are two pairs, from p to q"
-abbrev pub hoursFrom : ℕ → ℕ → ℕ → ℕ → List (List ℕ)
-hoursFrom p1 q1 p2 q2 = (p1 ∷ q1 ∷ []) ∷ (p2 ∷ q2 ∷ []) ∷ []
-
--- In a round hours are neither checked nor used.
-abbrev pub noHours : List (List ℕ)
-noHours = hoursFrom 0 0 0 0

@@ -8,9 +8,10 @@ ghost use Rattle.table.specs.Planned.{planned, spaceAfter};
 ghost use Rattle.plan_tape.specs.Written.{written};
 ghost use Rattle.fleet_tape.specs.Reading.{fleetRead};
 ghost use Rattle.reply.specs.Replied.{replying, replied};
-ghost use Rattle.hub_c.specs.Handed.{handed, handedReport, isRun, hoursFrom, noHours};
+ghost use Rattle.hub_c.specs.Handed.{handed, handedReport, isRun};
+ghost use Rattle.window.specs.Hours.{hoursFrom, noHours};
 use fleet_tape::Report;
-use table::Answer;
+use refusals::Answer;
 use window::Kind;
 
 // What a call reports: the refusal's number in paper 01, 0 for accepted, and the count, 0 on a refusal.
@@ -39,7 +40,7 @@ fn hand_over(answer: Answer) -> HubAnswer
 {
     let refusal = answer.refusal;
     HubAnswer {
-        refusal: table::number(refusal),
+        refusal: refusals::number(refusal),
         count: answer.count,
     }
 }
@@ -209,7 +210,7 @@ fn hand_over_report(report: Report) -> HubReport
     let kind = report.kind;
     let hours = fleet_tape::hours_in(report);
     HubReport {
-        refusal: table::number(refusal),
+        refusal: refusals::number(refusal),
         run: is_run(kind),
         ticks: report.ticks,
         p1: hours[0][0],

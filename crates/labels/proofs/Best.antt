@@ -1,14 +1,15 @@
 -- Of any class of label lists at most one list is best, and `firstBest` finds it. Two classes with the same lists have the same best.
 use Prim.Native.Nat.{ℕ, zero, suc, _≤_, _<_}
-use mathlib.Core.Path.{_≡_, refl, sym, ap, _∙_}
-use mathlib.Core.Logic.{_≢_, _↔_, inl, inr, ⊎-elim}
+use mathlib.Core.Path.{_≡_, refl, sym, ap}
+use mathlib.Core.Logic.{_≢_, _↔_, inl, inr}
 use mathlib.Core.Bool.{Bool, true}
 use mathlib.Core.List.{List, [], _∷_, List-discrete}
 use mathlib.Core.Option.{Option, none, some}
 use native.Mathlib.Decide.{ℕ-discrete}
 use native.Mathlib.Omega.{arith}
 use lib.ListN.{length}
-use Rattle.labels.specs.Labels.{at, heard, place, Earlier, Assignment, Best, firstBest}
+use Rattle.basics.specs.Lists.{at}
+use Rattle.labels.specs.Labels.{heard, place, Earlier, Assignment, Best, firstBest}
 use Rattle.labels.proofs.Search.{After, after-le, BestOf, Listed, best-best}
 
 earlier-asym : (a b : List ℕ) → Earlier a b → Earlier b a → ⊥

@@ -9,7 +9,7 @@ use native.Mathlib.Omega.{arith}
 use native.Mathlib.Nat.{eq-or-lt-of-le}
 use lib.Dec.{ltb}
 use borrow.Author.Tests.{ltb-true, ltb-false}
-use Rattle.labels.specs.Labels.{hears, heard, place, Earlier, better, put, firstBest}
+use Rattle.labels.specs.Labels.{heard, place, Earlier, better, put, firstBest}
 
 -- r is m, or comes after it
 abbrev pub After : List ℕ → List ℕ → Type 0
@@ -56,7 +56,6 @@ after-cons x (inr (e, inl h)) = inr (omega arith, inl (ap (λ a. x ∷ a) h))
 after-cons x (inr (e, inr h)) = inr (omega arith, inr (inr (refl, h)))
 
 put-best : (C : List ℕ → Type 0) (x : ℕ) (o : Option (List ℕ)) → BestOf C o → BestOf (Starts x C) (put x o)
-unfolding put
 put-best C x none h = go
   where
     go : (r : List ℕ) → Starts x C r → ⊥

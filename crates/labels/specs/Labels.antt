@@ -2,15 +2,12 @@
 use Prim.Native.Nat.{ℕ, zero, suc, _+_, _≤_, _<_}
 use mathlib.Core.Path.{_≡_}
 use mathlib.Core.Logic.{_≢_, _⊎_}
-use mathlib.Core.Bool.{Bool, true, false, cond, _&&_}
+use mathlib.Core.Bool.{Bool, cond}
 use mathlib.Core.List.{List, [], _∷_}
-use mathlib.Core.Option.{Option, none, some}
-use lib.ListN.{length, getD}
-use lib.Dec.{leb, ltb}
-
--- "A label per row: 0 not heard, 1 or 2 the receiver": the label of row i
-abbrev pub at : List ℕ → ℕ → ℕ
-at labels i = getD labels i 0
+use mathlib.Core.Option.{Option, none, some, Option·map}
+use lib.ListN.{length}
+use lib.Dec.{ltb}
+use Rattle.basics.specs.Lists.{at}
 
 -- 1 for a label that is 1 or 2, else 0
 unfoldable pub hears : ℕ → ℕ
@@ -38,7 +35,7 @@ Earlier [] b = ⊥
 Earlier (x ∷ a) [] = ⊥
 Earlier (x ∷ a) (y ∷ b) = (place x < place y) ⊎ ((x ≡ y) × Earlier a b)
 
--- A two-track assignment (report CS-TR-149-88) of n rows: row i may have the label x if `may i x`, and rows i and j of which `clash i j` are not on one receiver.
+-- A two-track assignment (report CS-TR-149-88) of n rows, "A label per row: 0 not heard, 1 or 2 the receiver": row i may have the label x if `may i x`, and rows i and j of which `clash i j` are not on one receiver.
 pub record Assignment (n : ℕ) (may clash : ℕ → ℕ → Type 0) (labels : List ℕ) : Type 0 where
   pub each : length labels ≡ n
   pub allowed : (i : ℕ) → i < n → may i (at labels i)
@@ -50,19 +47,6 @@ pub record Best (C : List ℕ → Type 0) (labels : List ℕ) : Type 0 where
   pub most : (rival : List ℕ) → C rival → heard rival ≤ heard labels
   pub first : (rival : List ℕ) → C rival → heard rival ≡ heard labels → rival ≢ labels → Earlier labels rival
 
--- ---- tests
-
-infixr 25 _⇒_
--- a test that asks b only where a holds
-abbrev pub _⇒_ : Bool → Bool → Bool
-true ⇒ b = b
-false ⇒ b = true
-
--- the test p holds of every number below n
-unfoldable pub every : ℕ → (ℕ → Bool) → Bool
-every zero p = true
-every (suc n) p = p n && every n p
-
 -- ---- the best, by trying all
 
 -- of two, the one that hears more, and the first where they hear as many
@@ -72,13 +56,13 @@ better none b = b
 better (some a) none = some a
 better (some a) (some b) = cond (ltb (heard a) (heard b)) (some b) (some a)
 
-unfoldable pub put : ℕ → Option (List ℕ) → Option (List ℕ)
-put x none = none
-put x (some labels) = some (x ∷ labels)
+-- a label before the others
+abbrev pub put : ℕ → Option (List ℕ) → Option (List ℕ)
+put x = Option·map (λ labels. x ∷ labels)
 
 -- Of all lists of n labels that pass a test, the first that hears most: 1, 2 and 0 are tried in each place, in this order.
 unfoldable pub firstBest : ℕ → (List ℕ → Bool) → Option (List ℕ)
-unfolding better put
+unfolding better
 firstBest zero p = cond (p []) (some []) none
 firstBest (suc n) p =
     better (put 1 (firstBest n (λ a. p (1 ∷ a))))

@@ -2,7 +2,6 @@
 use mathlib.Core.Path.{_≡_, refl}
 use mathlib.Core.List.{List, [], _∷_}
 use mathlib.Core.Bool.{Bool, true, false, cond, _&&_}
-use mathlib.Core.Logic.{_⊎_, inl, inr}
 use Prim.Native.Nat.{ℕ, zero, suc, _+_, _-_, _≤_, _<_}
 use native.Mathlib.Numerals.{sub-one}
 use native.Mathlib.Omega.{arith}
@@ -25,19 +24,6 @@ gain-pos (suc v) h = omega arith
 pub endAt-pos : (es : List ℕ) (a : ℕ) → (a ≡ 0 → ⊥) → getD es (a - 1) 0 ≡ endAt es a
 endAt-pos es zero h = absurd (h refl)
 endAt-pos es (suc a) h = rw sub-one
-
-pub le-or-lt : (a b : ℕ) → (a ≤ b) ⊎ (b < a)
-le-or-lt a b = by (leb a b) refl
-  where
-    by : (t : Bool) → leb a b ≡ t → (a ≤ b) ⊎ (b < a)
-    by true h = inl (leb-true a b h)
-    by false h = inr (leb-false a b h)
-
--- within a list the value that stands for "past its end" does not matter
-pub getD-any : (l : List ℕ) (i d e : ℕ) → i < length l → getD l i d ≡ getD l i e
-getD-any [] i d e h = absurd (omega arith)
-getD-any (x ∷ l) zero d e h = refl
-getD-any (x ∷ l) (suc i) d e h = getD-any l i d e (omega arith)
 
 -- ---- the size of `best`
 

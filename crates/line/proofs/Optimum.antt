@@ -9,7 +9,8 @@ use native.Mathlib.Omega.{arith}
 use borrow.Author.Tests.{eqb-true, eqb-false, eq-eqb, ne-eqb, leb-true, leb-false, le-leb}
 use lib.Dec.{eqb, leb}
 use lib.ListN.{length}
-use Rattle.labels.specs.Labels.{at, hears, heard}
+use Rattle.basics.specs.Lists.{at}
+use Rattle.labels.specs.Labels.{hears, heard}
 use Rattle.labels.specs.Permission.{permits}
 use Rattle.line.specs.Line.{Row, row, rows, when, gain, cell, best, Line, Settled}
 

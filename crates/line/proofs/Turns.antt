@@ -10,11 +10,13 @@ use borrow.Author.Count.{below-more}
 use borrow.Author.Tests.{le-leb}
 use lib.ListN.{length, getD, drop, set, length-drop, drop-of-length-le, List·getD-eq-default}
 use lib.Seq.{getD-set-same, getD-set-other, drop-set-lt, getD-drop}
-use Rattle.labels.specs.Labels.{at}
+use Rattle.basics.specs.Lists.{at}
 use Rattle.line.specs.Line.{row, rows, cell, best, Line}
 use Rattle.line.specs.Cells.{cellAt, endAt, lowAt, Lows}
 use Rattle.line.specs.Stage.{carry, carryAt, Live, Turn, LiveBelow, newCell, Small, RowMade, StageMade, startAt, Holds, LowsMade}
-use Rattle.line.proofs.Laws.{endAt-pos, Carried, over, live, carry-is, best-le, Same, best-same, drop-rows, length-rows, start-rows, rowAt, getD-any, le-or-lt}
+use Rattle.line.proofs.Laws.{endAt-pos, Carried, over, live, carry-is, best-le, Same, best-same, drop-rows, length-rows, start-rows, rowAt}
+use Rattle.basics.proofs.Tests.{le-or-lt}
+use Rattle.basics.proofs.Lists.{getD-any}
 
 -- ---- the next last row to visit
 

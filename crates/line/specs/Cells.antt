@@ -1,11 +1,8 @@
 -- The working space of the line program: 65 by 65 cells of a byte, and after them, for each row, the first row that can still matter when its turn comes.
-use mathlib.Core.Path.{_≡_}
-use mathlib.Core.Logic.{_⊎_}
 use mathlib.Core.List.{List, [], _∷_}
-use Prim.Native.Nat.{ℕ, suc, _+_, _*_, _≤_, _<_}
-use lib.ListN.{length, getD, drop}
-use Rattle.labels.specs.Labels.{at}
-use Rattle.line.specs.Line.{best, rows}
+use Prim.Native.Nat.{ℕ, _+_, _*_, _≤_, _<_}
+use lib.ListN.{length, getD}
+use Rattle.basics.specs.Lists.{at}
 
 -- cell (a, b): a is the last row on receiver 1 and b on receiver 2, each counted from 1, 0 for none
 abbrev pub cellAt : List ℕ → ℕ → ℕ → ℕ

@@ -1,12 +1,13 @@
 -- Rows on a line, in order of their starts, and the most of them that two receivers can hear.
 use mathlib.Core.Path.{_≡_}
 use mathlib.Core.List.{List, [], _∷_}
-use mathlib.Core.Bool.{Bool, true, false, cond, _&&_}
+use mathlib.Core.Bool.{Bool, true, false, _&&_}
 use mathlib.Core.Logic.{_⊎_}
-use Prim.Native.Nat.{ℕ, zero, suc, _+_, _≤_, _<_, max}
+use Prim.Native.Nat.{ℕ, zero, suc, _≤_, _<_, max}
 use lib.Dec.{leb}
-use lib.ListN.{length, getD}
-use Rattle.labels.specs.Labels.{at, Assignment}
+use lib.ListN.{length}
+use Rattle.basics.specs.Lists.{at}
+use Rattle.labels.specs.Labels.{Assignment}
 use Rattle.labels.specs.Permission.{permits}
 
 pub record Row : Type 0 where

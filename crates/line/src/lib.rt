@@ -1,40 +1,28 @@
 // The line program: how many rows of a line two receivers can hear.
 ghost use mathlib.Core.Path.{_≡_};
-ghost use Prim.Native.Nat.{ℕ, _+_, _*_, _<_, _≤_, max};
+ghost use Prim.Native.Nat.{ℕ, _<_, _≤_};
 ghost use mathlib.Core.Bool.{_&&_};
-ghost use lib.Dec.{eqb, leb};
+ghost use lib.Dec.{leb};
 ghost use lib.ListN.{length, drop};
-ghost use Rattle.labels.specs.Labels.{at};
+ghost use Rattle.basics.specs.Lists.{at};
 ghost use Rattle.line.specs.Line.{when, gain, cell, best, rows, Line};
 ghost use Rattle.line.specs.Cells.{endAt, Lows};
 ghost use Rattle.line.specs.Stage.{carryAt, Live, Turn, LiveBelow, newCell, Small, RowMade, StageMade};
+use labels::permission::may_have;
 
-// A byte as an index: a function of its own, so that callers need not show that it fits.
-pub fn wide(x: u8) -> usize
-    ensures { λ r. ⌜ r ≡ x ⌝ }
+// The value of leaving a row out, where it may be.
+fn out_value(may: bool, v: u8) -> u8
+    ensures { λ r. ⌜ r ≡ when may v ⌝ }
 {
-    x as usize
+    if may { v } else { 0 }
 }
 
-pub fn larger(x: u8, y: u8) -> u8
-    ensures { λ r. ⌜ r ≡ max x y ⌝ }
-{
-    if x < y { y } else { x }
-}
-
-// The value of leaving a row out, by its permission's bit.
-fn out_value(bit: u8, v: u8) -> u8
-    ensures { λ r. ⌜ r ≡ when (eqb bit 1) v ⌝ }
-{
-    if bit == 1 { v } else { 0 }
-}
-
-// The value of a row that starts at s on a receiver that is busy until e.
-fn heard_value(bit: u8, e: u16, s: u16, v: u8) -> u8
+// The value of a row that starts at s on a receiver that is busy until e, where it may have that receiver.
+fn heard_value(may: bool, e: u16, s: u16, v: u8) -> u8
     requires { ⌜ v < 255 ⌝ }
-    ensures { λ r. ⌜ r ≡ when (eqb bit 1 && leb e s) (gain v) ⌝ }
+    ensures { λ r. ⌜ r ≡ when (may && leb e s) (gain v) ⌝ }
 {
-    if bit == 1 {
+    if may {
         if e <= s {
             if v == 0 { 0 } else { v + 1 }
         } else {
@@ -50,10 +38,10 @@ fn cell_value(p: u8, s: u16, e1: u16, e2: u16, v0: u8, v1: u8, v2: u8) -> u8
     requires { ⌜ (v1 < 255) × (v2 < 255) ⌝ }
     ensures { λ r. ⌜ r ≡ cell p s e1 e2 v0 v1 v2 ⌝ }
 {
-    let out = out_value(p % 2, v0);
-    let one = heard_value(p / 2 % 2, e1, s, v1);
-    let two = heard_value(p / 4 % 2, e2, s, v2);
-    larger(out, larger(one, two))
+    let out = out_value(may_have(p, 0), v0);
+    let one = heard_value(may_have(p, 1), e1, s, v1);
+    let two = heard_value(may_have(p, 2), e2, s, v2);
+    basics::larger(out, basics::larger(one, two))
 }
 
 // When row a - 1 ends; 0 for none.
@@ -153,7 +141,7 @@ pub fn line_best(starts: &[u16], ends: &[u16], perms: &[u8], space: &mut [u8]) -
     while 0 < k {
         k -= 1;
         let start = starts[k];
-        let low = wide(space[4225 + k]);
+        let low = basics::wide(space[4225 + k]);
         fill_stage(ends, perms[k], start, next, k, low, space);
         next = start;
     }

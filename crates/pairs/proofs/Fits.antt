@@ -10,9 +10,10 @@ use native.Mathlib.Omega.{arith}
 use borrow.Author.Tests.{eqb-true, eqb-false, le-leb, lt-leb}
 use lib.Dec.{leb, eqb}
 use lib.ListN.{length}
-use Rattle.labels.specs.Labels.{at}
+use Rattle.basics.specs.Lists.{at}
+use Rattle.labels.proofs.Permissions.{permits-label}
 use Rattle.labels.specs.Permission.{permits}
-use Rattle.labels.proofs.Tests.{leb-iff, or-iff}
+use Rattle.basics.proofs.Tests.{leb-iff, or-iff}
 use Rattle.arcs.specs.Positions.{clear}
 use Rattle.arcs.specs.Order.{Crossing}
 use Rattle.pairs.specs.Pairs.{Cleared, beside, given, leaves, PairFit, AnyFit}
@@ -136,12 +137,6 @@ module _ (positions ends qs : List ℕ) (m : ℕ) (crossing : Crossing positions
         go (no a) = rw (le-leb m w (omega arith))
 
     module _ (w1 w2 : ℕ) (H1 : Holder l m 1 w1) (H2 : Holder l m 2 w2) where
-      label-le : (q x : ℕ) → permits q x ≡ true → x ≤ 2
-      label-le q zero h = omega arith
-      label-le q (suc zero) h = omega arith
-      label-le q (suc (suc zero)) h = omega arith
-      label-le q (suc (suc (suc x))) h = absurd (false≢true h)
-
       is-given : (k : ℕ) → k < m → given positions ends m w1 w2 k ≡ at l k
       is-given k h = go (eqb k w1) refl (eqb k w2) refl
         where
@@ -154,7 +149,7 @@ module _ (positions ends qs : List ℕ) (m : ℕ) (crossing : Crossing positions
           go : (a : Bool) → eqb k w1 ≡ a → (b : Bool) → eqb k w2 ≡ b → cond a 1 (cond b 2 0) ≡ at l k
           go true p b q = let e = eqb-true k w1 p in sym (H1 .has (rw e at h)) ∙ ap (at l) (sym e)
           go false p true q = let e = eqb-true k w2 q in sym (H2 .has (rw e at h)) ∙ ap (at l) (sym e)
-          go false p false q = other (at l k) refl (label-le (at qs k) _ (A .allowed k (omega (arith, crossing .within)))) (eqb-false k w1 p) (eqb-false k w2 q)
+          go false p false q = other (at l k) refl (permits-label (at qs k) _ (A .allowed k (omega (arith, crossing .within)))) (eqb-false k w1 p) (eqb-false k w2 q)
 
       leaves-it : (k : ℕ) → k < length positions → leaves positions ends m w1 w2 k (at l k) ≡ true
       leaves-it k h = go (decLt k m)
@@ -168,7 +163,7 @@ module _ (positions ends qs : List ℕ) (m : ℕ) (crossing : Crossing positions
           go : Dec (k < m) → leaves positions ends m w1 w2 k (at l k) ≡ true
           go (yes a) = leaves-front positions ends m w1 w2 k (at l k) a .1 (is-given k a)
           go (no a) =
-              let b = label-le (at qs k) (at l k) (A .allowed k h) in
+              let b = permits-label (at qs k) (at l k) (A .allowed k h) in
               rest-leaves positions ends m w1 w2 k (at l k) (omega arith) b (besides (omega arith) (at l k) refl b)
 
       pair-fit : PairFit positions ends qs m w1 w2 l

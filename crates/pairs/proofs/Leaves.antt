@@ -1,77 +1,20 @@
 -- What a pair leaves a row: the permission permits exactly what the row's own permission permits and the pair leaves.
-use Prim.Native.Nat.{ℕ, zero, suc, _+_, _*_, _/_, _%_, _≤_, _<_}
+use Prim.Native.Nat.{ℕ, zero, suc, _+_, _≤_, _<_}
 use mathlib.Core.Path.{_≡_, refl, sym, ap, subst, _∙_}
 use mathlib.Core.Logic.{_↔_, _≢_}
 use mathlib.Core.Bool.{Bool, true, false, cond, false≢true}
-use mathlib.Core.List.{List, [], _∷_}
-use native.Mathlib.Decide.{decLt}
+use mathlib.Core.List.{List, []}
 use native.Mathlib.Omega.{arith}
 use borrow.Author.Tests.{eqb-true, eq-eqb, lt-ltb, le-ltb, le-leb, lt-leb}
 use borrow.Author.Count.{below-more}
 use lib.Dec.{leb, eqb}
 use lib.ListN.{length, set}
 use lib.Seq.{getD-set-same, getD-set-other}
-use Rattle.labels.specs.Labels.{at}
-use Rattle.labels.specs.Permission.{permits}
-use Rattle.pairs.specs.Pairs.{gathered, restrict, beside, given, leaves, leftOf, LeftAll}
-
-pub bit-le : (a : Bool) (x : ℕ) → x ≤ 1 → cond a x 0 ≤ 1
-bit-le true x h = h
-bit-le false x h = omega arith
-
-bit-iff : (a : Bool) (x y : ℕ) → y ≡ cond a x 0 → (eqb y 1 ≡ true) ↔ ((eqb x 1 ≡ true) × (a ≡ true))
-bit-iff true x y e = (λ h. (eq-eqb x 1 (sym e ∙ eqb-true y 1 h), refl), λ h. eq-eqb y 1 (e ∙ eqb-true x 1 (h .0)))
-bit-iff false x y e = (λ h. absurd (omega (arith, eqb-true y 1 h)), λ h. absurd (false≢true (h .1)))
-
--- over a test f of the labels
-module _ (q : ℕ) (f : ℕ → Bool) where
-  first : ℕ
-  first = cond (f 0) (q % 2) 0
-
-  second : ℕ
-  second = cond (f 1) (q / 2 % 2) 0
-
-  third : ℕ
-  third = cond (f 2) (q / 4 % 2) 0
-
-  kept : ℕ
-  kept = restrict q (f 0) (f 1) (f 2)
-
-  bits : (first ≤ 1) × (second ≤ 1) × (third ≤ 1) × (kept ≡ first + second * 2 + third * 4)
-  unfolding first second third kept restrict
-  bits = (bit-le (f 0) (q % 2) (omega arith), bit-le (f 1) (q / 2 % 2) (omega arith), bit-le (f 2) (q / 4 % 2) (omega arith), refl)
-
-  digits : (kept % 2 ≡ first) × (kept / 2 % 2 ≡ second) × (kept / 4 % 2 ≡ third)
-  digits = (omega (arith, bits), omega (arith, bits), omega (arith, bits))
-
-  pub restrict-iff : (x : ℕ) → (permits (restrict q (f 0) (f 1) (f 2)) x ≡ true) ↔ ((permits q x ≡ true) × (f x ≡ true))
-  unfolding first second third kept
-  restrict-iff zero = bit-iff (f 0) (q % 2) (kept % 2) (digits .0)
-  restrict-iff (suc zero) = bit-iff (f 1) (q / 2 % 2) (kept / 2 % 2) (digits .1)
-  restrict-iff (suc (suc zero)) = bit-iff (f 2) (q / 4 % 2) (kept / 4 % 2) (digits .2)
-  restrict-iff (suc (suc (suc x))) = (λ h. absurd (false≢true h), λ h. absurd (false≢true (h .0)))
-
-  -- what is not 0 permits some label
-  pub restrict-some : 0 < restrict q (f 0) (f 1) (f 2) → (x : ℕ) × (permits (restrict q (f 0) (f 1) (f 2)) x ≡ true)
-  unfolding kept
-  restrict-some h = go (decLt 0 first) (decLt 0 second)
-    where
-      go : Dec (0 < first) → Dec (0 < second) → (x : ℕ) × (permits kept x ≡ true)
-      go (yes a) d = (0, eq-eqb (kept % 2) 1 (omega (arith, bits, digits)))
-      go (no a) (yes b) = (1, eq-eqb (kept / 2 % 2) 1 (digits .1 ∙ omega (arith, bits)))
-      go (no a) (no b) = (2, eq-eqb (kept / 4 % 2) 1 (digits .2 ∙ omega (arith, bits)))
-
-pub none-permitted : (q x : ℕ) → q ≡ 0 → permits q x ≡ true → ⊥
-none-permitted q zero e h = omega (arith, eqb-true (q % 2) 1 h)
-none-permitted q (suc zero) e h = omega (arith, eqb-true (q / 2 % 2) 1 h)
-none-permitted q (suc (suc zero)) e h = omega (arith, eqb-true (q / 4 % 2) 1 h)
-none-permitted q (suc (suc (suc x))) e h = false≢true h
-
--- the permission at place k is that of the row there
-pub gathered-at : (order perms : List ℕ) (k : ℕ) → k < length order → at (gathered order perms) k ≡ at perms (at order k)
-gathered-at [] perms k h = absurd (omega arith)
-gathered-at (i ∷ order) perms zero h = refl
-gathered-at (i ∷ order) perms (suc k) h = gathered-at order perms k (omega arith)
+use Rattle.basics.specs.Lists.{at}
+use Rattle.basics.proofs.Lists.{at-map}
+use Rattle.labels.specs.Permission.{permits, restrict}
+use Rattle.labels.proofs.Permissions.{restrict-iff, restrict-some}
+use Rattle.pairs.specs.Pairs.{gathered, beside, given, leaves, leftOf, LeftAll}
 
 module _ (positions ends : List ℕ) (m w k : ℕ) where
   pub beside-none : m ≤ w → true ≡ beside positions ends m w k
@@ -145,7 +88,7 @@ module _ (positions ends : List ℕ) (m w1 w2 : ℕ) where
 
   pub left-gathered : (order perms : List ℕ) (k row r : ℕ) → k < length order → row ≡ at order k → r ≡ leftOf positions ends m w1 w2 k (at perms row)
       → r ≡ leftOf positions ends m w1 w2 k (at (gathered order perms) k)
-  left-gathered order perms k row r h e d = d ∙ ap (leftOf positions ends m w1 w2 k) (ap (at perms) e ∙ sym (gathered-at order perms k h))
+  left-gathered order perms k row r h e d = d ∙ ap (leftOf positions ends m w1 w2 k) (ap (at perms) e ∙ sym (at-map (at perms) order k h))
 
   -- the rows one by one
   module _ (perms : List ℕ) where

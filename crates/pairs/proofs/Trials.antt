@@ -8,19 +8,19 @@ use native.Mathlib.Omega.{arith}
 use lib.Dec.{ltb}
 use lib.ListN.{length, take, drop, getD, length-drop}
 use lib.Seq.{getD-drop, take-all}
-use Rattle.labels.specs.Labels.{at}
-use Rattle.labels.proofs.Tests.{and-iff, ltb-iff, eqb-iff}
+use Rattle.basics.specs.Lists.{at}
+use Rattle.basics.proofs.Tests.{and-iff, ltb-iff, eqb-iff, cond-le}
 use Rattle.line.specs.Line.{Line, best, rows}
 use Rattle.line.specs.Cells.{lowAt, Lows}
 use Rattle.pairs.specs.Capped.{Capped, Rows, Ready}
 use Rattle.pairs.specs.Pairs.{gathered, Cleared, PairFit, Within, AnyFit, Leaving, twice, one, withPair}
 use Rattle.pairs.proofs.Caps.{most-capped, capped-iff, within-none, within-more, within-reached}
-use Rattle.pairs.proofs.Leaves.{bit-le, none-permitted}
+use Rattle.labels.proofs.Permissions.{none-permitted}
 use Rattle.pairs.proofs.Fits.{fit-iff}
 use Rattle.pairs.proofs.Value.{line, pair-most, best-le}
 
 pub one-le : (m w : ℕ) → one m w ≤ 1
-one-le m w = bit-le (ltb w m) 1 (omega arith)
+one-le m w = cond-le (ltb w m) (omega arith)
 
 pub with-none : (m w1 w2 v : ℕ) → v ≡ 0 → 0 ≡ withPair m w1 w2 v
 unfolding withPair

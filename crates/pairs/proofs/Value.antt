@@ -6,23 +6,21 @@ use mathlib.Core.List.{List, [], _∷_, _++_}
 use native.Mathlib.Decide.{ℕ-discrete, decLt}
 use native.Mathlib.Omega.{arith}
 use native.Mathlib.Numerals.{add-one}
-use borrow.Author.Tests.{eqb-true, lt-ltb, le-ltb, lt-leb, eq-eqb, ne-eqb}
+use borrow.Author.Tests.{eqb-true, lt-ltb, le-ltb, eq-eqb, ne-eqb}
 use lib.Dec.{eqb}
 use lib.ListN.{length, take, drop, length-append, length-drop, take-append-drop, List·getD-append}
 use lib.Seq.{getD-drop, getD-append-add, take-all}
-use Rattle.labels.specs.Labels.{at, hears, heard}
+use Rattle.basics.specs.Lists.{at}
+use Rattle.labels.specs.Labels.{hears, heard}
 use Rattle.labels.specs.Permission.{permits}
 use Rattle.labels.proofs.Heard.{heard-nil, heard-append, heard-more, heard-le}
-use Rattle.arcs.specs.Order.{key, InOrder, Crossing}
+use Rattle.arcs.specs.Order.{InOrder, Crossing}
 use Rattle.line.specs.Line.{Line, Settled, best, rows}
 use Rattle.line.proofs.Optimum.{line-sound, line-complete}
+use Rattle.arcs.proofs.Sorting.{key-other}
 use Rattle.pairs.specs.Capped.{Most}
 use Rattle.pairs.specs.Pairs.{given, leftOf, PairFit, LeftAll, one, withPair}
 use Rattle.pairs.proofs.Leaves.{left-iff, leaves-front, left-given}
-
-key-rest : (p e : ℕ) → p < e → key p e ≡ suc p
-unfolding key
-key-rest p e h = rw (lt-leb e p h)
 
 -- a list of m entries by a rule
 listed : (f : ℕ → ℕ) (m : ℕ) → (l : List ℕ) × (length l ≡ m) × ((k : ℕ) → k < m → at l k ≡ f k)
@@ -99,8 +97,8 @@ module _ (positions ends perms left : List ℕ) (m w1 w2 : ℕ) (each-end : leng
           omega (
             arith,
             ordered i j b h,
-            key-rest (at positions i) (at ends i) (crossing .rest i a (omega arith)),
-            key-rest (at positions j) (at ends j) (crossing .rest j (omega arith) h),
+            key-other (at positions i) (at ends i) (crossing .rest i a (omega arith)),
+            key-other (at positions j) (at ends j) (crossing .rest j (omega arith) h),
           )
 
   -- labels that the pair fits settle the line

@@ -3,7 +3,8 @@ use Prim.Native.Nat.{ℕ, suc, _≤_, _<_}
 use mathlib.Core.Path.{_≡_}
 use mathlib.Core.List.{List}
 use lib.ListN.{length, drop}
-use Rattle.labels.specs.Labels.{at, heard}
+use Rattle.basics.specs.Lists.{at}
+use Rattle.labels.specs.Labels.{heard}
 use Rattle.arcs.specs.Order.{InOrder, Crossing}
 use Rattle.line.specs.Cells.{Lows}
 

@@ -3,11 +3,12 @@ use mathlib.Core.Path.{_≡_}
 use mathlib.Core.Logic.{_⊎_}
 use mathlib.Core.Bool.{Bool, true, false, cond, _&&_, _||_}
 use mathlib.Core.List.{List, map}
-use Prim.Native.Nat.{ℕ, zero, suc, _+_, _*_, _/_, _%_, _≤_, _<_}
+use Prim.Native.Nat.{ℕ, zero, suc, _+_, _≤_, _<_}
 use lib.Dec.{leb, ltb, eqb}
 use lib.ListN.{length}
-use Rattle.labels.specs.Labels.{at, Assignment}
-use Rattle.labels.specs.Permission.{permits}
+use Rattle.basics.specs.Lists.{at}
+use Rattle.labels.specs.Labels.{Assignment}
+use Rattle.labels.specs.Permission.{permits, restrict}
 use Rattle.arcs.specs.Positions.{clear}
 
 -- the permissions of the rows in order: place k has that of row `order k`
@@ -18,10 +19,6 @@ gathered order perms = map (λ i. at perms i) order
 abbrev pub Cleared : List ℕ → List ℕ → List ℕ → List ℕ → Type 0
 Cleared positions ends perms =
     Assignment (length positions) (λ i x. permits (at perms i) x ≡ true) (λ i j. clear (at positions i) (at ends i) (at positions j) (at ends j) ≡ false)
-
--- what is left of the permission q where the tests a, b and c say which of the labels 0, 1 and 2 are left
-unfoldable pub restrict : ℕ → Bool → Bool → Bool → ℕ
-restrict q a b c = cond a (q % 2) 0 + cond b (q / 2 % 2) 0 * 2 + cond c (q / 4 % 2) 0 * 4
 
 module _ (positions ends : List ℕ) (m : ℕ) where
   -- row k lies between the end and the position of the crossing row w, so it can share w's receiver; w = m is no row

@@ -1,23 +1,13 @@
 // Pairs of crossing rows: how many rows of a circle two receivers can hear.
 ghost use mathlib.Core.Path.{_≡_};
 ghost use mathlib.Core.Bool.{cond};
-ghost use Prim.Native.Nat.{_+_, _≤_, _<_, max, min};
+ghost use Prim.Native.Nat.{_≤_, _<_};
 ghost use lib.Dec.{eqb};
 ghost use lib.ListN.{length, drop};
 ghost use Rattle.line.specs.Line.{Line, best, rows};
 ghost use Rattle.line.specs.Cells.{Lows};
-ghost use Rattle.pairs.specs.Pairs.{gathered, Cleared, beside, restrict, leftOf, PairFit, SecondFit, Leaving, twice, one, withPair};
+ghost use Rattle.pairs.specs.Pairs.{gathered, Cleared, beside, leftOf, PairFit, SecondFit, Leaving, twice, one, withPair};
 ghost use Rattle.pairs.specs.Capped.{Capped, Rows, Ready};
-
-// Of the permission q the labels 0, 1 and 2 that the tests leave.
-fn kept_labels(q: u8, zero: bool, one: bool, two: bool) -> u8
-    ensures { λ r. ⌜ r ≡ restrict q zero one two ⌝ }
-{
-    let bit0 = labels::permission::bit_if(zero, q % 2);
-    let bit1 = labels::permission::bit_if(one, q / 2 % 2);
-    let bit2 = labels::permission::bit_if(two, q / 4 % 2);
-    bit0 + bit1 * 2 + bit2 * 4
-}
 
 // Whether row k lies between the end and the position of the crossing row w; w = m is no row.
 fn is_beside(positions: &[u16], ends: &[u16], m: usize, w: usize, k: usize) -> bool
@@ -50,11 +40,11 @@ fn left_of(positions: &[u16], ends: &[u16], m: usize, w1: usize, w2: usize, k: u
 {
     if k < m {
         let label = given_label(w1, w2, k);
-        return kept_labels(q, label == 0, label == 1, label == 2);
+        return labels::permission::restricted(q, label == 0, label == 1, label == 2);
     }
     let one = is_beside(positions, ends, m, w1, k);
     let two = is_beside(positions, ends, m, w2, k);
-    kept_labels(q, true, one, two)
+    labels::permission::restricted(q, true, one, two)
 }
 
 // What the pair (w1, w2) leaves of each permission; false at once where it leaves a row no label. Crossing rows come first: most pairs that cannot be fail there.
@@ -73,7 +63,7 @@ fn leave(
 {
     let mut k = 0;
     while k < positions.len() {
-        let row = line::wide(order[k]);
+        let row = basics::wide(order[k]);
         let kept = left_of(positions, ends, m, w1, w2, k, perms[row]);
         if kept == 0 {
             return false;
@@ -82,12 +72,6 @@ fn leave(
         k += 1;
     }
     true
-}
-
-fn smaller(x: u8, y: u8) -> u8
-    ensures { λ r. ⌜ r ≡ min x y ⌝ }
-{
-    if x < y { x } else { y }
 }
 
 // Whether a pair has one crossing row twice.
@@ -149,7 +133,7 @@ fn pair_best(
     if leave(positions, ends, order, perms, m, w1, w2, left) {
         let v = rest_best(positions, ends, left, m, space);
         let value = with_pair(m, w1, w2, v);
-        return smaller(value, cap);
+        return basics::smaller(value, cap);
     }
     0
 }
@@ -177,7 +161,7 @@ fn second_best(
         if cap <= value {
             return cap;
         }
-        best = line::larger(best, value);
+        best = basics::larger(best, value);
     }
     best
 }
@@ -205,7 +189,7 @@ pub fn capped_best(
         if cap <= v {
             return cap;
         }
-        best = line::larger(best, v);
+        best = basics::larger(best, v);
     }
     best
 }

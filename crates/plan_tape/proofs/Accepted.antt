@@ -1,50 +1,31 @@
 -- What a writer call gives when its checks refuse and when they pass. A call that passes has a plan, whose rows on one receiver start at different ticks, and a buffer that is long enough.
 use Prim.Native.Nat.{ℕ, _+_, _*_, _≤_, _<_}
 use mathlib.Core.Path.{_≡_, refl, sym, _∙_}
-use mathlib.Core.Bool.{Bool, true, false, not, cond, _&&_, _||_}
+use mathlib.Core.Bool.{Bool, true, false, cond, _&&_, _||_}
 use mathlib.Core.List.{List}
 use native.Mathlib.Nat.{le-refl}
 use native.Mathlib.Omega.{arith}
-use borrow.Author.Tests.{le-leb, lt-leb, leb-true, eq-eqb, ne-eqb, not-true, not-false}
+use borrow.Author.Tests.{le-leb, lt-leb, leb-true, eq-eqb, ne-eqb}
 use lib.Dec.{leb, ltb}
 use lib.ListN.{length}
-use Rattle.labels.specs.Labels.{at, heard}
+use Rattle.basics.specs.Lists.{at, Put}
+use Rattle.labels.specs.Labels.{heard}
 use Rattle.window.specs.Windows.{covers, overlaps}
 use Rattle.window.proofs.Meaning.{overlaps-iff}
-use Rattle.table.specs.declared.Refusal.{Refusal}
-use Rattle.table.specs.declared.Refusal.the-variants.{Accepted, NotPlan, Buffer}
-use Rattle.table.specs.declared.Answer.{Answer}
-use Rattle.table.specs.Refusals.{numberOf, asked, _then_}
+use Rattle.refusals.specs.declared.Refusal.{Refusal}
+use Rattle.refusals.specs.declared.Refusal.the-variants.{Accepted, NotPlan, Buffer}
+use Rattle.refusals.specs.Refusals.{numberOf, answered, asked, _then_}
 use Rattle.table.specs.Tables.{Table, rows, Plan, Valid, isPlan}
 use Rattle.table.specs.Checks.{listsRefusal, tableLooked}
-use Rattle.table.proofs.Checked.{Passed, then-passed, asked-passed, lists-passed, table-passed}
+use Rattle.refusals.proofs.Refusals.{Passed, then-passed, asked-passed}
+use Rattle.table.proofs.Checked.{lists-passed, table-passed}
 use Rattle.table.proofs.Plans.{plan-iff}
 use Rattle.plan_tape.specs.PlanTapes.{rowsOf}
 use Rattle.plan_tape.specs.Written.{tapeOf, writeRefusal, written}
-use Rattle.plan_tape.specs.Parts.{Put, Differ, Writable}
-use Rattle.plan_tape.proofs.Puts.{put-all}
+use Rattle.plan_tape.specs.Parts.{Differ, Writable}
+use Rattle.basics.proofs.Puts.{put-front}
 use Rattle.plan_tape.proofs.Order.{Rising, rising-rows}
 use Rattle.plan_tape.proofs.Length.{tape-length}
-
--- ---- the order of the checks
-
-module _ {a r : Refusal} (e : r ≡ a) where
-  -- the first check refuses
-  pub then-first : (b : Refusal) → (numberOf r ≡ 0 → ⊥) → r ≡ (a then b)
-  then-first b n = rw (← e, ne-eqb (numberOf r) 0 n) refl
-
-  -- the first check passes
-  pub then-next : {b x : Refusal} → numberOf r ≡ 0 → x ≡ b → x ≡ (a then b)
-  then-next n q = rw (← e, eq-eqb (numberOf r) 0 n) q
-
-module _ {a b : Bool} (r : Refusal) (e : a ≡ b) where
-  -- the test of a check fails
-  pub asked-failed : not a ≡ true → r ≡ asked b r
-  asked-failed n = rw (← e, not-true a n) refl
-
-  -- the test of a check holds
-  pub asked-held : not a ≡ false → Accepted ≡ asked b r
-  asked-held n = rw (← e, not-false a n) refl
 
 -- ---- calls that pass
 
@@ -115,13 +96,13 @@ module _ (t : Table) (labels : List ℕ) where
 
   module _ (before : List ℕ) where
     pub written-refused : (r : Refusal) → r ≡ writeRefusal t labels (length before) → (numberOf r ≡ 0 → ⊥)
-        → (_≡_ {A = Answer} (record { refusal = r; count = 0 }) (written t labels before .answer)) × (before ≡ written t labels before .buffer)
+        → (answered r 0 ≡ written t labels before .answer) × (before ≡ written t labels before .buffer)
     unfolding written
     written-refused r e n = rw (← e, ne-eqb (numberOf r) 0 n) (refl, refl)
 
     pub written-passed : Passed (writeRefusal t labels (length before)) → (after : List ℕ) (next : ℕ) → Put before 0 (tapeOf t labels) after next
-        → (_≡_ {A = Answer} (record { refusal = Accepted; count = next }) (written t labels before .answer)) × (after ≡ written t labels before .buffer)
+        → (answered Accepted next ≡ written t labels before .answer) × (after ≡ written t labels before .buffer)
     unfolding written
     written-passed p after next q =
-        let count : next ≡ length (tapeOf t labels) = omega (arith, q .place) in
-        rw (eq-eqb (numberOf (writeRefusal t labels (length before))) 0 p) (rw count refl, put-all q (write-fit (length before) p .room))
+        let count : next ≡ length (tapeOf t labels) = omega (arith, q .ends) in
+        rw (eq-eqb (numberOf (writeRefusal t labels (length before))) 0 p) (rw count refl, put-front q (write-fit (length before) p .room) .1)

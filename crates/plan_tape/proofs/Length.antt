@@ -9,7 +9,8 @@ use native.Mathlib.Nat.{le-refl}
 use borrow.Author.Tests.{ne-eqb}
 use lib.Dec.{eqb}
 use lib.ListN.{length, take, length-append}
-use Rattle.labels.specs.Labels.{at, heard, hears}
+use Rattle.basics.specs.Lists.{at}
+use Rattle.labels.specs.Labels.{heard, hears}
 use Rattle.labels.proofs.Heard.{heard-nil, heard-more, heard-all}
 use Rattle.window.specs.declared.Kind.{Kind}
 use Rattle.plan_tape.specs.PlanTapes.{rowsByStart, rowsOf, listens, planTape}

@@ -1,6 +1,5 @@
 -- Laws of plan tapes and of writing one.
 pub mod Order
-pub mod Puts
 pub mod Length
 pub mod Listing
 pub mod Accepted

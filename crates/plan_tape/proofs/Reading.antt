@@ -9,7 +9,7 @@ use native.Mathlib.Omega.{arith}
 use borrow.Author.Tests.{ne-eqb}
 use lib.Dec.{eqb}
 use lib.ListN.{length, drop, List·getD-eq-default}
-use Rattle.labels.specs.Labels.{at}
+use Rattle.basics.specs.Lists.{at}
 use Rattle.window.specs.declared.Kind.{Kind}
 use Rattle.window.specs.declared.Kind.the-variants.{Round, Run}
 use Rattle.tape.specs.Commands.{ROUND, RECEIVER, LISTEN, STOP}

@@ -2,21 +2,21 @@
 use Prim.Native.Nat.{ℕ, _≤_, _<_}
 use mathlib.Core.Path.{_≡_, refl, sym, ap, _∙_}
 use mathlib.Core.Logic.{_≢_, _↔_}
-use mathlib.Core.Bool.{Bool, true, false}
-use mathlib.Core.List.{List, _++_, List·Memᴰ}
+use mathlib.Core.Bool.{Bool, true, false, cond}
+use mathlib.Core.List.{List, List·Memᴰ}
 use native.Mathlib.Decide.{ℕ-discrete, decLt}
 use native.Mathlib.Omega.{arith}
 use borrow.Author.Tests.{eqb-true, eqb-false}
 use lib.Dec.{eqb}
 use lib.ListN.{length, take, drop, List·getD-eq-default}
 use lib.Seq.{take-append-seam}
-use Rattle.labels.specs.Labels.{at}
+use Rattle.basics.specs.Lists.{at, front}
 use Rattle.window.specs.declared.Kind.{Kind}
-use Rattle.table.specs.declared.Refusal.the-variants.{Accepted}
-use Rattle.table.specs.Refusals.{numberOf}
+use Rattle.refusals.specs.declared.Refusal.the-variants.{Accepted}
+use Rattle.refusals.specs.Refusals.{numberOf, answered}
 use Rattle.table.specs.Tables.{Table, Plan}
 use Rattle.plan_tape.specs.PlanTapes.{planTape}
-use Rattle.plan_tape.specs.Written.{tapeOf, writeRefusal, Written, decide, written, SamePlan}
+use Rattle.plan_tape.specs.Written.{tapeOf, writeRefusal, Written, written, SamePlan}
 use Rattle.plan_tape.proofs.Accepted.{Fit, write-fit}
 use Rattle.plan_tape.proofs.Reading.{Listen, Reading, read, Heard, States, tape-states}
 
@@ -102,8 +102,8 @@ module _ (t : Table) (labels before : List ℕ) where
 
       yields : Bool → Written
       yields b =
-          decide b (record { answer = record { refusal = Accepted; count = length (tapeOf t labels) }; buffer = tapeOf t labels ++ drop (length (tapeOf t labels)) before })
-          (record { answer = record { refusal = writeRefusal t labels (length before); count = 0 }; buffer = before })
+          cond b (record { answer = answered Accepted (length (tapeOf t labels)); buffer = front (tapeOf t labels) before })
+          (record { answer = answered (writeRefusal t labels (length before)) 0; buffer = before })
 
       go : (b : Bool) → eqb (numberOf (writeRefusal t labels (length before))) 0 ≡ b → yields b .answer .refusal ≡ Accepted
           → Fit t labels (length before) × (take (yields b .answer .count) (yields b .buffer) ≡ tapeOf t labels)

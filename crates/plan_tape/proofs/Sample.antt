@@ -4,8 +4,8 @@ use mathlib.Core.Path.{_≡_, refl}
 use mathlib.Core.List.{List, [], _∷_, _++_}
 use lib.ListN.{replicate}
 use Rattle.window.specs.declared.Kind.the-variants.{Round}
-use Rattle.table.specs.declared.Refusal.{Refusal}
-use Rattle.table.specs.declared.Refusal.the-variants.{Accepted, NotPlan, Buffer}
+use Rattle.refusals.specs.declared.Refusal.{Refusal}
+use Rattle.refusals.specs.declared.Refusal.the-variants.{Accepted, NotPlan, Buffer}
 use Rattle.table.specs.Tables.{Table, table}
 use Rattle.plan_tape.specs.PlanTapes.{planTape}
 use Rattle.plan_tape.specs.Written.{Written, written}

@@ -2,15 +2,16 @@
 use Prim.Native.Nat.{ℕ, _+_, _*_, _≤_, _<_}
 use mathlib.Core.Path.{_≡_}
 use mathlib.Core.Logic.{_≢_, _↔_}
-use mathlib.Core.Bool.{Bool, true, false}
+use mathlib.Core.Bool.{cond}
 use mathlib.Core.List.{List, _++_}
-use lib.Dec.{leb, eqb}
+use lib.Dec.{leb}
 use lib.ListN.{length, drop}
-use Rattle.labels.specs.Labels.{at, heard}
-use Rattle.table.specs.declared.Refusal.{Refusal}
-use Rattle.table.specs.declared.Refusal.the-variants.{Accepted, NotPlan, Buffer}
-use Rattle.table.specs.declared.Answer.{Answer}
-use Rattle.table.specs.Refusals.{numberOf, asked, _then_}
+use Rattle.basics.specs.Lists.{at, front}
+use Rattle.labels.specs.Labels.{heard}
+use Rattle.refusals.specs.declared.Refusal.{Refusal}
+use Rattle.refusals.specs.declared.Refusal.the-variants.{Accepted, NotPlan, Buffer}
+use Rattle.refusals.specs.declared.Answer.{Answer}
+use Rattle.refusals.specs.Refusals.{answered, asked, passes, _then_}
 use Rattle.table.specs.Tables.{Table, rows, Plan, isPlan}
 use Rattle.table.specs.Checks.{listsRefusal, tableLooked}
 use Rattle.plan_tape.specs.PlanTapes.{planTape}
@@ -34,21 +35,17 @@ pub record Written : Type 0 where
   pub answer : Answer
   pub buffer : List ℕ
 
-abbrev pub decide : Bool → Written → Written → Written
-decide true a b = a
-decide false a b = b
-
 -- The writer's answer for a table, labels and a tape buffer that held `before`. "The writer reports that length as its count and leaves the bytes after it untouched."
 -- "The first [refusal] that applies is reported, with count 0. Outputs .. are untouched."
 unfoldable pub written : Table → List ℕ → List ℕ → Written
 unfolding writeRefusal tapeOf
 written t labels before =
-    decide (eqb (numberOf (writeRefusal t labels (length before))) 0)
+    cond (passes (writeRefusal t labels (length before)))
     (record {
-      answer = record { refusal = Accepted; count = length (tapeOf t labels) };
-      buffer = tapeOf t labels ++ drop (length (tapeOf t labels)) before;
+      answer = answered Accepted (length (tapeOf t labels));
+      buffer = front (tapeOf t labels) before;
     })
-    (record { answer = record { refusal = writeRefusal t labels (length before); count = 0 }; buffer = before })
+    (record { answer = answered (writeRefusal t labels (length before)) 0; buffer = before })
 
 -- What demand 2 asks of a call whose checks before 9 pass.
 pub record Demand2 (t : Table) (labels before : List ℕ) (w : Written) : Type 0 where

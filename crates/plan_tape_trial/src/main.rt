@@ -7,8 +7,8 @@ use plan_tape_made::made::plan_by;
 use plan_tape_made::told::has_head;
 use plan_tape_made::told::is_row;
 use plan_tape_made::told::take_plan;
-use table::Answer;
-use table::Refusal;
+use refusals::Answer;
+use refusals::Refusal;
 use window::Kind;
 
 // ---- calls of the writer
@@ -144,7 +144,7 @@ fn print_kept(untouched: bool) {
 }
 
 fn print_answer(refusal: Refusal, count: usize) {
-    print_number(b": refusal ", table::number(refusal) as u64);
+    print_number(b": refusal ", refusals::number(refusal) as u64);
     print_number(b", count ", count as u64);
 }
 
@@ -369,7 +369,7 @@ fn is_told(lent: Lent, count: usize, tape: &[u8; 400]) -> bool {
 fn is_right(lent: Lent, answer: Answer, tape: &[u8; 400]) -> bool {
     let refusal = answer.refusal;
     let head = lent.head;
-    if table::number(refusal) != 0 {
+    if refusals::number(refusal) != 0 {
         return false;
     }
     if !has_head(tape, head.run, head.ticks) {
@@ -386,7 +386,7 @@ fn is_short(lent: Lent) -> bool {
     let mut tape = filled();
     let answer = write(lent, &mut tape);
     let refusal = answer.refusal;
-    if table::number(refusal) != 10 {
+    if refusals::number(refusal) != 10 {
         return false;
     }
     is_untouched(&tape, answer.count)

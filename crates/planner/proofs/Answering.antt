@@ -1,33 +1,29 @@
 -- What the planner's parts report is what `planned` yields: the core's answer is the best plan or none, a refusal changes nothing, and the working space is cleared where paper 01 says so.
-use Prim.Native.Nat.{ℕ, zero, suc, _+_, _-_, _≤_, _<_}
+use Prim.Native.Nat.{ℕ, _-_, _≤_, _<_}
 use mathlib.Core.Path.{_≡_, refl, sym, ap, _∙_}
-use mathlib.Core.Bool.{Bool, true, false, _||_}
 use mathlib.Core.List.{List, map, _++_}
 use mathlib.Core.Option.{Option, none, some}
 use native.Mathlib.Omega.{arith}
-use lib.Dec.{eqb, leb}
 use lib.ListN.{length, drop, replicate}
 use lib.Seq.{drop-drop}
-use borrow.Author.Tests.{eq-eqb, ne-eqb, le-leb, lt-leb}
-use Rattle.labels.specs.Labels.{heard, Best}
+use borrow.Author.Tests.{ne-eqb, le-leb, lt-leb}
+use Rattle.labels.specs.Labels.{heard}
 use Rattle.labels.specs.Permission.{labelOf}
 use Rattle.labels.proofs.Best.{best-iff}
 use Rattle.arcs.specs.Arcs.{Assigned}
-use Rattle.table.specs.declared.Refusal.{Refusal}
-use Rattle.table.specs.declared.Refusal.the-variants.{Accepted, Space, NoPlan}
-use Rattle.table.specs.declared.Answer.{Answer}
-use Rattle.table.specs.Refusals.{numberOf, asked, _then_}
-use Rattle.table.specs.Tables.{Table, rows, Plan, Valid}
+use Rattle.refusals.specs.declared.Refusal.{Refusal}
+use Rattle.refusals.specs.declared.Refusal.the-variants.{Accepted, Space, NoPlan}
+use Rattle.refusals.specs.declared.Answer.{Answer}
+use Rattle.refusals.specs.Refusals.{numberOf, answered, _then_}
+use Rattle.table.specs.Tables.{Table, rows, Valid}
 use Rattle.table.specs.Checks.{listsRefusal, tableLooked}
-use Rattle.table.specs.Planned.{spaceBytes, spaceRefusal, checked, bestPlan, Planned, given, planned, spaceAfter, Demand3}
-use Rattle.table.proofs.Checked.{Passed, checked-most, checked-valid}
+use Rattle.table.specs.Planned.{spaceBytes, spaceRefusal, checked, bestPlan, given, planned, spaceAfter, Demand3}
+use Rattle.refusals.proofs.Refusals.{Passed, then-first, then-next}
+use Rattle.table.proofs.Checked.{Not8, checked-8, checked-valid}
 use Rattle.table.proofs.Rivals.{best-plan, no-plan, planned-passed, demand-3}
 use Rattle.tracks.specs.Tracks.{Answered}
 use Rattle.planner.specs.Turned.{Turned, Checked}
 use Rattle.planner.proofs.Turning.{plan-assigned}
-
-abbrev pub answered : Refusal → ℕ → Answer
-answered r n = record { refusal = r; count = n }
 
 -- ---- a checked table
 
@@ -53,31 +49,25 @@ module _ (t : Table) (valid : Valid t) (before : List ℕ) {starts lengths perms
 
 -- ---- a refusal
 
-then-first : (a b : Refusal) → (numberOf a ≡ 0 → ⊥) → (a then b) ≡ a
-then-first a b n = rw (ne-eqb (numberOf a) 0 n) refl
-
-then-next : (a b : Refusal) → Passed a → (a then b) ≡ b
-then-next a b p = rw (eq-eqb (numberOf a) 0 p) refl
-
 module _ (t : Table) (before space : List ℕ) where
   abbrev lists : Refusal
   lists = listsRefusal (rows t) (length (t .ends)) (length (t .marks)) (length before)
 
   pub lists-refuses : (numberOf lists ≡ 0 → ⊥) → lists ≡ checked t before (length space)
   unfolding checked
-  lists-refuses n = sym (then-first lists _ n)
+  lists-refuses n = then-first refl _ n
 
   pub space-refuses : Passed lists → length space < spaceBytes → Space ≡ checked t before (length space)
   unfolding checked spaceRefusal
-  space-refuses p h = sym (then-next lists _ p ∙ rw (lt-leb spaceBytes (length space) h) refl)
+  space-refuses p h = then-next {a = lists} {r = lists} refl {b = spaceRefusal (length space) then tableLooked t .refusal} p (rw (lt-leb spaceBytes (length space) h) refl)
 
   pub table-checked : Passed lists → spaceBytes ≤ length space → tableLooked t .refusal ≡ checked t before (length space)
   unfolding checked spaceRefusal
-  table-checked p h = sym (then-next lists _ p ∙ rw (le-leb spaceBytes (length space) h) refl)
+  table-checked p h = then-next {a = lists} {r = lists} refl {b = spaceRefusal (length space) then tableLooked t .refusal} p (rw (le-leb spaceBytes (length space) h) refl)
 
-  space-kept : (r : Refusal) → (numberOf r ≡ 0 → ⊥) → numberOf r ≤ 7 → space ≡ spaceAfter r space
+  space-kept : (r : Refusal) → (numberOf r ≡ 0 → ⊥) → Not8 r → space ≡ spaceAfter r space
   unfolding spaceAfter
-  space-kept r n h = rw (ne-eqb (numberOf r) 0 n, ne-eqb (numberOf r) 8 (λ e. omega arith)) refl
+  space-kept r n h = rw (ne-eqb (numberOf r) 0 n, ne-eqb (numberOf r) 8 (h .not)) refl
 
   planned-refused : (numberOf (checked t before (length space)) ≡ 0 → ⊥)
       → planned t before (length space) ≡ record { answer = answered (checked t before (length space)) 0; labels = before }
@@ -105,7 +95,7 @@ module _ (t : Table) (before space : List ℕ) where
       promised a before space
       (e ∙ ap (λ x. answered x 0) q ∙ sym (ap (λ x. x .answer) p))
       (sym (ap (λ x. x .labels) p))
-      (rw e (space-kept r n (rw q (checked-most t before (length space)))))
+      (rw e (space-kept r n (rw q (checked-8 t before (length space)))))
 
   -- ---- an answer
 

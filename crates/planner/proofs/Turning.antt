@@ -1,82 +1,36 @@
 -- From paper to core: a list of labels is a plan of a checked table exactly if it is an assignment of its arcs and permissions. Run and round together.
-use Prim.Native.Nat.{ℕ, zero, suc, _+_, _≤_, _<_}
-use mathlib.Core.Path.{_≡_, refl, sym, ap, ap₂, _∙_}
-use mathlib.Core.Logic.{_≢_, _↔_, Iff·trans}
-use mathlib.Core.Bool.{Bool, true, false, cond, _||_}
-use mathlib.Core.List.{List, [], _∷_, map}
+use Prim.Native.Nat.{ℕ, _<_}
+use mathlib.Core.Path.{_≡_, sym, ap₂, _∙_}
+use mathlib.Core.Logic.{_≢_, _↔_}
+use mathlib.Core.Bool.{Bool, true, _||_}
+use mathlib.Core.List.{List, []}
 use native.Mathlib.Omega.{arith}
-use lib.Dec.{ltb, eqb}
-use lib.ListN.{length, length-map}
-use lib.Seq.{ext-getD}
-use Rattle.labels.specs.Labels.{at, Assignment, Best, heard}
-use Rattle.labels.specs.Permission.{permits, labelOf}
-use Rattle.labels.proofs.Best.{assignment-iff, best-iff}
+use lib.ListN.{length}
+use Rattle.basics.specs.Lists.{at}
+use Rattle.labels.specs.Permission.{permits}
+use Rattle.labels.proofs.Permissions.{made-iff}
+use Rattle.labels.proofs.Best.{assignment-iff}
 use Rattle.window.specs.declared.Kind.{Kind}
-use Rattle.window.specs.Ticks.{distance}
-use Rattle.window.specs.Windows.{Window, Overlap, ticksIn, covers, overlaps}
+use Rattle.window.specs.Windows.{Window, Overlap, ticksIn, overlaps}
 use Rattle.window.proofs.Meaning.{window-start, overlaps-iff, ticks-some, ticks-most, covers-near}
 use Rattle.arcs.specs.Arcs.{Meet, meets, Arcs, Assigned}
 use Rattle.arcs.proofs.Meets.{meets-iff}
-use Rattle.arcs.proofs.Written.{Written}
-use Rattle.table.specs.Tables.{Table, table, rows, Allowed, Clash, Plan, Valid, isAllowed}
+use Rattle.basics.proofs.Filling.{Filled}
+use Rattle.table.specs.Tables.{Table, rows, Allowed, Clash, Plan, Valid, isAllowed}
 use Rattle.table.proofs.Plans.{allowed-iff}
-use Rattle.table.proofs.Testing.{allowed-past}
-use Rattle.planner.specs.Turned.{permissionOf, Turned, Room, Checked}
+use Rattle.planner.specs.Turned.{permissionOf, Turned, Room}
 
 -- ---- permissions
-
--- what the three tests a, b and c say of the label x
-abbrev test : Bool → Bool → Bool → ℕ → Bool
-test a b c zero = a
-test a b c (suc zero) = b
-test a b c (suc (suc zero)) = c
-test a b c (suc (suc (suc x))) = false
-
--- a permission made of three tests permits what they say
-permits-test : (a b c : Bool) (x : ℕ) → permits (cond a 1 0 + cond b 2 0 + cond c 4 0) x ≡ test a b c x
-permits-test a b c (suc (suc (suc x))) = refl
-permits-test true true true zero = refl
-permits-test true true true (suc zero) = refl
-permits-test true true true (suc (suc zero)) = refl
-permits-test true true false zero = refl
-permits-test true true false (suc zero) = refl
-permits-test true true false (suc (suc zero)) = refl
-permits-test true false true zero = refl
-permits-test true false true (suc zero) = refl
-permits-test true false true (suc (suc zero)) = refl
-permits-test true false false zero = refl
-permits-test true false false (suc zero) = refl
-permits-test true false false (suc (suc zero)) = refl
-permits-test false true true zero = refl
-permits-test false true true (suc zero) = refl
-permits-test false true true (suc (suc zero)) = refl
-permits-test false true false zero = refl
-permits-test false true false (suc zero) = refl
-permits-test false true false (suc (suc zero)) = refl
-permits-test false false true zero = refl
-permits-test false false true (suc zero) = refl
-permits-test false false true (suc (suc zero)) = refl
-permits-test false false false zero = refl
-permits-test false false false (suc zero) = refl
-permits-test false false false (suc (suc zero)) = refl
 
 module _ (t : Table) (i : ℕ) where
   abbrev may : ℕ → Bool
   may = isAllowed (t .kind) (t .hours) (at (t .starts) i) (at (t .ends) i) (at (t .marks) i)
 
-  -- no label past 2 is allowed
-  test-may : (x : ℕ) → test (may 0) (may 1) (may 2) x ≡ may x
-  test-may zero = refl
-  test-may (suc zero) = refl
-  test-may (suc (suc zero)) = refl
-  test-may (suc (suc (suc x))) = allowed-past (t .kind) (t .hours) (at (t .starts) i) (at (t .ends) i) (at (t .marks) i) (suc (suc (suc x))) (omega arith)
-
   permission-iff : (p x : ℕ) → p ≡ permissionOf (t .kind) (t .hours) (at (t .starts) i) (at (t .ends) i) (at (t .marks) i) → Allowed t i x ↔ (permits p x ≡ true)
   unfolding permissionOf
   permission-iff p x e =
-      let q : permits p x ≡ may x = ap (λ n. permits n x) e ∙ permits-test (may 0) (may 1) (may 2) x ∙ test-may x in
       let f = allowed-iff t i x in
-      (λ a. q ∙ f .1 a, λ h. f .0 (sym q ∙ h))
+      rw e (λ a. made-iff may x .1 (a .known, f .1 a), λ h. f .0 (made-iff may x .0 h .1))
 
 -- ---- arcs
 
@@ -129,25 +83,10 @@ module _ (t : Table) (valid : Valid t) {starts lengths perms : List ℕ} (turned
 
 -- ---- the loops
 
-pub cond-le : (b : Bool) (n : ℕ) → cond b n 0 ≤ n
-cond-le true n = omega arith
-cond-le false n = omega arith
-
-map-at : (f : ℕ → ℕ) (l : List ℕ) (i : ℕ) → i < length l → at (map f l) i ≡ f (at l i)
-map-at f [] i h = absurd (omega arith)
-map-at f (x ∷ l) zero h = refl
-map-at f (x ∷ l) (suc i) h = map-at f l i (omega arith)
-
-pub labels-done : (perms : List ℕ) {before after : List ℕ} (i : ℕ) → i ≡ length perms → length before ≡ length perms
-    → Written (λ k. labelOf (at perms k)) i before after → after ≡ map labelOf perms
-labels-done perms {before} {after} i e n w =
-    ext-getD 0 after (map labelOf perms) (w .each ∙ n ∙ sym (length-map perms labelOf))
-    (λ k h. w .done k (omega (arith, w .each)) ∙ sym (map-at labelOf perms k (omega (arith, w .each))))
-
 pub turned-done : (t : Table) {xs ys zs starts lengths perms : List ℕ} → Room t xs ys zs → (i : ℕ) → i ≡ rows t
-    → Written (at (t .starts)) i xs starts
-    → Written (λ k. ticksIn (t .kind) (t .ticks) (at (t .starts) k) (at (t .ends) k)) i ys lengths
-    → Written (λ k. permissionOf (t .kind) (t .hours) (at (t .starts) k) (at (t .ends) k) (at (t .marks) k)) i zs perms
+    → Filled (at (t .starts)) i xs starts
+    → Filled (λ k. ticksIn (t .kind) (t .ticks) (at (t .starts) k) (at (t .ends) k)) i ys lengths
+    → Filled (λ k. permissionOf (t .kind) (t .hours) (at (t .starts) k) (at (t .ends) k) (at (t .marks) k)) i zs perms
     → Turned t (rows t) starts lengths perms
 turned-done t room i e a b c =
     record {

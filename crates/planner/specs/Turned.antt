@@ -1,10 +1,10 @@
 -- The rows of a checked table as arcs and permissions: a window is the arc of its ticks, and a row's permission has the labels that a plan allows it.
-use Prim.Native.Nat.{ℕ, _+_, _≤_, _<_}
+use Prim.Native.Nat.{ℕ, _≤_, _<_}
 use mathlib.Core.Path.{_≡_}
-use mathlib.Core.Bool.{cond}
 use mathlib.Core.List.{List}
 use lib.ListN.{length}
-use Rattle.labels.specs.Labels.{at}
+use Rattle.basics.specs.Lists.{at}
+use Rattle.labels.specs.Permission.{permission}
 use Rattle.window.specs.declared.Kind.{Kind}
 use Rattle.window.specs.Windows.{ticksIn}
 use Rattle.table.specs.Tables.{Table, rows, isAllowed, Valid}
@@ -12,9 +12,7 @@ use Rattle.table.specs.Tables.{Table, rows, isAllowed, Valid}
 -- bit x is set if the row may have the label x
 unfoldable pub permissionOf : Kind → List (List ℕ) → ℕ → ℕ → ℕ → ℕ
 permissionOf kind hours start end mark =
-    cond (isAllowed kind hours start end mark 0) 1 0
-    + cond (isAllowed kind hours start end mark 1) 2 0
-    + cond (isAllowed kind hours start end mark 2) 4 0
+    permission (isAllowed kind hours start end mark 0) (isAllowed kind hours start end mark 1) (isAllowed kind hours start end mark 2)
 
 -- the first n rows of a table are turned into arcs and permissions
 pub record Turned (t : Table) (n : ℕ) (starts lengths perms : List ℕ) : Type 0 where

@@ -4,12 +4,12 @@ ghost use mathlib.Core.List.{_++_, map};
 ghost use Prim.Native.Nat.{_≤_};
 ghost use lib.ListN.{length, drop, replicate};
 ghost use Rattle.labels.specs.Permission.{labelOf};
-ghost use Rattle.table.specs.Tables.{table, rows, Valid};
-ghost use Rattle.table.specs.Refusals.{numberOf};
+ghost use Rattle.table.specs.Tables.{table, Valid};
+ghost use Rattle.refusals.specs.Refusals.{numberOf};
 ghost use Rattle.table.specs.Planned.{spaceBytes, checked, bestPlan, given, planned, spaceAfter, Demand3};
 ghost use Rattle.planner.specs.Turned.{permissionOf, Turned, Room, Checked};
-use table::Answer;
-use table::Refusal;
+use refusals::Answer;
+use refusals::Refusal;
 use window::Kind;
 
 // The working space that a call needs and clears, in bytes.
@@ -19,19 +19,11 @@ pub const SPACE_BYTES: usize = 16384;
 fn permission(kind: Kind, hours: [[u16; 2]; 2], start: u16, end: u16, mark: u8) -> u8
     ensures { λ r. ⌜ r ≡ permissionOf kind hours start end mark ⌝ }
 {
-    let zero = labels::permission::bit_if(
+    labels::permission::permission_of(
         table::plan::is_allowed(kind, hours, start, end, mark, 0),
-        1,
-    );
-    let one = labels::permission::bit_if(
         table::plan::is_allowed(kind, hours, start, end, mark, 1),
-        2,
-    );
-    let two = labels::permission::bit_if(
         table::plan::is_allowed(kind, hours, start, end, mark, 2),
-        4,
-    );
-    zero + one + two
+    )
 }
 
 // Turns the rows of a checked table into arcs and permissions.
@@ -167,13 +159,6 @@ fn clear_space(space: &mut [u8])
     }
 }
 
-// What a refused call reports.
-fn refused(refusal: Refusal) -> Answer
-    ensures { λ r. ⌜ r ≡ record { refusal = refusal; count = 0 } ⌝ }
-{
-    Answer { refusal, count: 0 }
-}
-
 // THE PLANNER. Answer, labels and working space are what the definition `planned` yields, on every input, whatever labels and working space held before.
 // So, spelled out: where all checks before 8 pass, answer and labels are as demand 3 asks.
 pub fn plan(
@@ -192,16 +177,16 @@ pub fn plan(
     ensures demand3 { λ r. ⌜ (numberOf (checked (table kind ticks hours (now (starts .entry)) (now (ends .entry)) (now (marks .entry))) (now (labels .entry)) (length (now (space .entry)))) ≡ 0 → Demand3 (table kind ticks hours (now (starts .entry)) (now (ends .entry)) (now (marks .entry))) r (now (labels .exit))) ⌝ }
 {
     let refusal = table::checks::check_lists(starts.len(), ends.len(), marks.len(), labels.len());
-    if table::number(refusal) != 0 {
-        return refused(refusal);
+    if refusals::number(refusal) != 0 {
+        return refusals::refused(refusal);
     }
     if space.len() < SPACE_BYTES {
-        return refused(Refusal::Space);
+        return refusals::refused(Refusal::Space);
     }
     let looked = table::checks::check_table(kind, ticks, hours, starts, ends, marks);
     let refusal2 = looked.refusal;
-    if table::number(refusal2) != 0 {
-        return refused(refusal2);
+    if refusals::number(refusal2) != 0 {
+        return refusals::refused(refusal2);
     }
     let answer = plan_checked(kind, ticks, hours, starts, ends, marks, labels, space);
     clear_space(space);

@@ -9,22 +9,24 @@ use lib.Dec.{eqb, leb}
 use lib.ListN.{length, take, drop, length-append}
 use lib.Seq.{length-take-le}
 use borrow.Author.Tests.{eq-eqb, ne-eqb, eqb-true, eqb-false, leb-true, le-leb, lt-leb}
-use Rattle.labels.specs.Labels.{at}
+use Rattle.basics.specs.Lists.{at, Put}
 use Rattle.labels.proofs.Heard.{heard-le}
-use Rattle.table.specs.declared.Refusal.{Refusal}
-use Rattle.table.specs.declared.Refusal.the-variants.{Lists, Rows, Form}
-use Rattle.table.specs.declared.Answer.{Answer}
-use Rattle.table.specs.Refusals.{numberOf}
+use Rattle.refusals.specs.declared.Refusal.{Refusal}
+use Rattle.refusals.specs.declared.Refusal.the-variants.{Lists, Rows, Form}
+use Rattle.refusals.specs.declared.Answer.{Answer}
+use Rattle.refusals.specs.Refusals.{numberOf, answered}
 use Rattle.table.specs.Tables.{Table, table}
 use Rattle.table.specs.Planned.{checked, bestPlan, Planned, given, planned, spaceAfter}
-use Rattle.table.proofs.Checked.{Passed, checked-valid}
+use Rattle.refusals.proofs.Refusals.{Passed, number-below}
+use Rattle.table.proofs.Checked.{checked-valid}
 use Rattle.table.proofs.Rivals.{best-plan, planned-passed}
 use Rattle.fleet_tape.specs.Form.{Fleet, fleetOf}
 use Rattle.fleet_tape.specs.Reading.{Reading, reading, refused, taken, judged, hasPlaces, fleetRead}
 use Rattle.reply.specs.Lines.{heardWord, refusedWord, wordLine, rowLine, rowLines, printed}
 use Rattle.reply.specs.Replied.{places, refusedWith, readAnswer, tapeAnswer, Replied, replying, repliedWith, replied, Within}
-use Rattle.reply.specs.Put.{Put, answerOf, Answerable, Lent}
-use Rattle.reply.proofs.Putting.{put-front, word-length, row-length, number-most}
+use Rattle.reply.specs.Room.{answerOf, Answerable, Lent}
+use Rattle.basics.proofs.Puts.{put-front}
+use Rattle.reply.proofs.Putting.{word-length, row-length}
 
 -- ---- the lines
 
@@ -55,7 +57,7 @@ printed-length p out a = go (eqb (numberOf (p .answer .refusal)) 0) refl
         rw (printed-heard p z) (omega (arith, length-append (wordLine heardWord (p .answer .count)) (rowLines 0 (p .labels)), word-length heardWord (p .answer .count) (a .count z), rows-length 0 (p .labels) (omega (arith, l .few)) (l .small), l .few, a .fits))
     go false e =
         rw (printed-refused p (eqb-false (numberOf (p .answer .refusal)) 0 e))
-        (omega (arith, word-length refusedWord (numberOf (p .answer .refusal)) (omega (arith, number-most (p .answer .refusal))), a .fits))
+        (omega (arith, word-length refusedWord (numberOf (p .answer .refusal)) (omega (arith, number-below (p .answer .refusal))), a .fits))
 
 -- ---- the planner's answer
 
@@ -74,7 +76,7 @@ module _ (t : Table) (before : List ℕ) (space : ℕ) (out : List ℕ) (room : 
         fits = room;
       }
 
-  planned-refused : (numberOf (checked t before space) ≡ 0 → ⊥) → planned t before space ≡ record { answer = record { refusal = checked t before space; count = 0 }; labels = before }
+  planned-refused : (numberOf (checked t before space) ≡ 0 → ⊥) → planned t before space ≡ record { answer = answered (checked t before space) 0; labels = before }
   unfolding planned
   planned-refused n = rw (ne-eqb (numberOf (checked t before space)) 0 n) refl
 
@@ -99,7 +101,7 @@ abbrev replying-same : {r r′ : ℕ} {o o′ s s′ : List ℕ} → r ≡ r′ 
 replying-same p q e = λ i. replying (p i) (q i) (e i)
 
 -- the lines of an answer are put, and the working space is what its refusal leaves
-pub answer-replied : (p : Planned) (space : List ℕ) {out after space′ : List ℕ} {r : ℕ} → Answerable p out → Put out after 0 (printed p) r → space′ ≡ spaceAfter (p .answer .refusal) space
+pub answer-replied : (p : Planned) (space : List ℕ) {out after space′ : List ℕ} {r : ℕ} → Answerable p out → Put out 0 (printed p) after r → space′ ≡ spaceAfter (p .answer .refusal) space
     → replying r after space′ ≡ repliedWith p out space
 unfolding repliedWith
 answer-replied p space {out} a e s =
@@ -112,7 +114,7 @@ unfolding spaceAfter
 space-kept refusal space n m = rw (ne-eqb (numberOf refusal) 0 n, ne-eqb (numberOf refusal) 8 m) refl
 
 pub refusal-replied : (refusal : Refusal) (space : List ℕ) {out after : List ℕ} {r : ℕ} → (numberOf refusal ≡ 0 → ⊥) → (numberOf refusal ≡ 8 → ⊥) → 400 ≤ length out
-    → Put out after 0 (wordLine refusedWord (numberOf refusal)) r → replying r after space ≡ repliedWith (refusedWith refusal) out space
+    → Put out 0 (wordLine refusedWord (numberOf refusal)) after r → replying r after space ≡ repliedWith (refusedWith refusal) out space
 refusal-replied refusal space n m h e =
     answer-replied (refusedWith refusal) space (record { count = λ z. absurd (n z); labels = λ z. absurd (n z); fits = h })
     (rw (printed-refused (refusedWith refusal) n) e) (space-kept refusal space n m)
@@ -160,7 +162,7 @@ module _ (tape : List ℕ) where
 
     -- the reader refuses
     pub reader-refused : (space : List ℕ) → (numberOf (r .report .refusal) ≡ 0 → ⊥)
-        → {after : List ℕ} {n : ℕ} → Put out after 0 (wordLine refusedWord (numberOf (r .report .refusal))) n
+        → {after : List ℕ} {n : ℕ} → Put out 0 (wordLine refusedWord (numberOf (r .report .refusal))) after n
         → replying n after space ≡ repliedWith (readAnswer (fleetRead tape places places places) (length space)) out space
     unfolding readAnswer
     reader-refused space n p =

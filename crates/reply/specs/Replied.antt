@@ -2,12 +2,13 @@
 use Prim.Native.Nat.{ℕ, _≤_}
 use mathlib.Core.Path.{_≡_}
 use mathlib.Core.Bool.{cond}
-use mathlib.Core.List.{List, [], _++_}
+use mathlib.Core.List.{List, []}
 use lib.Dec.{leb, eqb}
-use lib.ListN.{length, take, drop, replicate}
-use Rattle.table.specs.declared.Refusal.{Refusal}
-use Rattle.table.specs.declared.Refusal.the-variants.{Form}
-use Rattle.table.specs.Refusals.{numberOf}
+use lib.ListN.{length, take, replicate}
+use Rattle.basics.specs.Lists.{front}
+use Rattle.refusals.specs.declared.Refusal.{Refusal}
+use Rattle.refusals.specs.declared.Refusal.the-variants.{Form}
+use Rattle.refusals.specs.Refusals.{numberOf, answered}
 use Rattle.table.specs.Tables.{Table, table}
 use Rattle.table.specs.Planned.{Planned, planned, spaceAfter}
 use Rattle.fleet_tape.specs.Reading.{Reading, fleetRead}
@@ -26,7 +27,7 @@ tableOf r =
     (take (r .report .rows) (r .marks))
 
 abbrev pub refusedWith : Refusal → Planned
-refusedWith refusal = record { answer = record { refusal = refusal; count = 0 }; labels = [] }
+refusedWith refusal = record { answer = answered refusal 0; labels = [] }
 
 -- what was read is planned, with so many bytes of working space, unless the reader refuses
 unfoldable pub readAnswer : Reading → ℕ → Planned
@@ -54,7 +55,7 @@ replying written out space = record { written = written; out = out; space = spac
 unfoldable pub repliedWith : Planned → List ℕ → List ℕ → Replied
 unfolding printed spaceAfter
 repliedWith p out space =
-    replying (length (printed p)) (printed p ++ drop (length (printed p)) out) (spaceAfter (p .answer .refusal) space)
+    replying (length (printed p)) (front (printed p) out) (spaceAfter (p .answer .refusal) space)
 
 -- The reply to a tape, for an output and working space that are lent. Less than 400 bytes of output: nothing is written.
 unfoldable pub replied : List ℕ → List ℕ → List ℕ → Replied

@@ -2,15 +2,16 @@
 ghost use mathlib.Core.Path.{_≡_};
 ghost use Prim.Native.Nat.{_+_, _<_};
 ghost use lib.ListN.{length};
-ghost use Rattle.table.specs.Refusals.{numberOf};
+ghost use Rattle.refusals.specs.Refusals.{numberOf};
 ghost use Rattle.table.specs.Tables.{table};
 ghost use Rattle.table.specs.Planned.{planned};
 ghost use Rattle.fleet_tape.specs.Reading.{fleetRead};
 ghost use Rattle.reply.specs.Lines.{decimal, wordLine, rowLine, rowLines, refusedWord, printed};
 ghost use Rattle.reply.specs.Replied.{places, readAnswer, replying, repliedWith, replied, Within};
-ghost use Rattle.reply.specs.Put.{Put, Room, NumberRoom, RowRoom, LabelsRoom, WordRoom, answerOf, Answerable, Lent};
-use table::Answer;
-use table::Refusal;
+ghost use Rattle.basics.specs.Lists.{Put};
+ghost use Rattle.reply.specs.Room.{Room, NumberRoom, RowRoom, LabelsRoom, WordRoom, answerOf, Answerable, Lent};
+use refusals::Answer;
+use refusals::Refusal;
 use window::Kind;
 
 // The output that a call needs, in bytes; the longest reply has 319.
@@ -18,13 +19,6 @@ pub const OUT_BYTES: usize = 400;
 
 // The longest tape that is read, in bytes.
 pub const TAPE_BYTES: usize = 400;
-
-// A byte as a number to count with.
-fn wide(byte: u8) -> usize
-    ensures { λ r. ⌜ r ≡ byte ⌝ }
-{
-    byte as usize
-}
 
 // The byte of a digit.
 fn digit(n: usize) -> u8
@@ -37,7 +31,7 @@ fn digit(n: usize) -> u8
 // Puts bytes at a place; the result is the place after them.
 fn put(out: &mut [u8], place: usize, bytes: &[u8]) -> usize
     requires { ⌜ Room (now out) place (length (now bytes)) ⌝ }
-    ensures { λ r. ⌜ Put (now (out .entry)) (now (out .exit)) place (now (bytes .entry)) r ⌝ }
+    ensures { λ r. ⌜ Put (now (out .entry)) place (now (bytes .entry)) (now (out .exit)) r ⌝ }
 {
     let mut at = place;
     let mut i: usize = 0;
@@ -52,7 +46,7 @@ fn put(out: &mut [u8], place: usize, bytes: &[u8]) -> usize
 // Puts a number in decimal.
 fn put_number(out: &mut [u8], place: usize, n: usize) -> usize
     requires { ⌜ NumberRoom n (now out) place ⌝ }
-    ensures { λ r. ⌜ Put (now (out .entry)) (now (out .exit)) place (decimal n) r ⌝ }
+    ensures { λ r. ⌜ Put (now (out .entry)) place (decimal n) (now (out .exit)) r ⌝ }
 {
     if n < 10 {
         out[place] = digit(n);
@@ -66,11 +60,11 @@ fn put_number(out: &mut [u8], place: usize, n: usize) -> usize
 // Puts the line of a row.
 fn put_row(out: &mut [u8], place: usize, row: usize, label: u8) -> usize
     requires { ⌜ RowRoom row label (now out) place ⌝ }
-    ensures { λ r. ⌜ Put (now (out .entry)) (now (out .exit)) place (rowLine row label) r ⌝ }
+    ensures { λ r. ⌜ Put (now (out .entry)) place (rowLine row label) (now (out .exit)) r ⌝ }
 {
     let between = put_number(out, place, row);
     out[between] = b' ';
-    let end = put_number(out, between + 1, wide(label));
+    let end = put_number(out, between + 1, basics::wide(label));
     out[end] = b'\n';
     end + 1
 }
@@ -78,7 +72,7 @@ fn put_row(out: &mut [u8], place: usize, row: usize, label: u8) -> usize
 // Puts the lines of all rows.
 fn put_rows(out: &mut [u8], place: usize, labels: &[u8]) -> usize
     requires { ⌜ LabelsRoom (now labels) (now out) place ⌝ }
-    ensures { λ r. ⌜ Put (now (out .entry)) (now (out .exit)) place (rowLines 0 (now (labels .entry))) r ⌝ }
+    ensures { λ r. ⌜ Put (now (out .entry)) place (rowLines 0 (now (labels .entry))) (now (out .exit)) r ⌝ }
 {
     let mut at = place;
     let mut row: usize = 0;
@@ -92,7 +86,7 @@ fn put_rows(out: &mut [u8], place: usize, labels: &[u8]) -> usize
 // Puts a line of a word and a number at the front.
 fn put_word(out: &mut [u8], word: &[u8], n: usize) -> usize
     requires { ⌜ WordRoom (now word) n (now out) ⌝ }
-    ensures { λ r. ⌜ Put (now (out .entry)) (now (out .exit)) 0 (wordLine (now (word .entry)) n) r ⌝ }
+    ensures { λ r. ⌜ Put (now (out .entry)) 0 (wordLine (now (word .entry)) n) (now (out .exit)) r ⌝ }
 {
     let between = put(out, 0, word);
     out[between] = b' ';
@@ -104,18 +98,18 @@ fn put_word(out: &mut [u8], word: &[u8], n: usize) -> usize
 // Puts the line of a refusal at the front.
 fn put_refused(out: &mut [u8], refusal: Refusal) -> usize
     requires { ⌜ Room (now out) 0 400 ⌝ }
-    ensures { λ r. ⌜ Put (now (out .entry)) (now (out .exit)) 0 (wordLine refusedWord (numberOf refusal)) r ⌝ }
+    ensures { λ r. ⌜ Put (now (out .entry)) 0 (wordLine refusedWord (numberOf refusal)) (now (out .exit)) r ⌝ }
 {
-    put_word(out, b"refused", wide(table::number(refusal)))
+    put_word(out, b"refused", basics::wide(refusals::number(refusal)))
 }
 
 // Puts the lines of a planner's answer at the front.
 fn put_answer(out: &mut [u8], answer: Answer, labels: &[u8]) -> usize
     requires { ⌜ Answerable (answerOf answer (now labels)) (now out) ⌝ }
-    ensures { λ r. ⌜ Put (now (out .entry)) (now (out .exit)) 0 (printed (answerOf answer (now (labels .entry)))) r ⌝ }
+    ensures { λ r. ⌜ Put (now (out .entry)) 0 (printed (answerOf answer (now (labels .entry)))) (now (out .exit)) r ⌝ }
 {
     let refusal = answer.refusal;
-    if table::number(refusal) != 0 {
+    if refusals::number(refusal) != 0 {
         return put_refused(out, refusal);
     }
     let at = put_word(out, b"heard", answer.count);
@@ -156,7 +150,7 @@ fn reply_lent(
 {
     let report = fleet_tape::read_fleet(tape, starts, ends, marks);
     let refusal = report.refusal;
-    if table::number(refusal) != 0 {
+    if refusals::number(refusal) != 0 {
         return put_refused(out, refusal);
     }
     let kind = report.kind;

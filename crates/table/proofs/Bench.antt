@@ -4,8 +4,10 @@ use mathlib.Core.Path.{_≡_, refl}
 use mathlib.Core.List.{List, [], _∷_, map}
 use Rattle.window.specs.declared.Kind.{Kind}
 use Rattle.window.specs.declared.Kind.the-variants.{Round, Run}
-use Rattle.table.specs.declared.Refusal.{Refusal}
-use Rattle.table.specs.declared.Refusal.the-variants.{Accepted, Mark, NoPlan}
+use Rattle.window.specs.Hours.{hoursFrom, noHours}
+use Rattle.refusals.specs.declared.Refusal.{Refusal}
+use Rattle.refusals.specs.declared.Refusal.the-variants.{Accepted, Mark, NoPlan}
+use Rattle.refusals.specs.Refusals.{answered}
 use Rattle.table.specs.Tables.{Table, table}
 use Rattle.table.specs.Planned.{Planned, planned}
 
@@ -36,20 +38,17 @@ on kind R hours rows gives =
       gives = gives;
     }
 
-closed : List (List ℕ)
-closed = (0 ∷ 0 ∷ []) ∷ (0 ∷ 0 ∷ []) ∷ []
-
 round : ℕ → List Row → Planned → Case
-round R = on Round R closed
+round R = on Round R noHours
 
 run : ℕ → List (List ℕ) → List Row → Planned → Case
 run = on Run
 
 plan : ℕ → List ℕ → Planned
-plan count labels = record { answer = record { refusal = Accepted; count = count }; labels = labels }
+plan count labels = record { answer = answered Accepted count; labels = labels }
 
 refused : Refusal → List Row → Planned
-refused r rows = record { answer = record { refusal = r; count = 0 }; labels = nines rows }
+refused r rows = record { answer = answered r 0; labels = nines rows }
 
 p2 : ℕ → ℕ → ℕ → List Row
 p2 a b c = row 10 30 a ∷ row 20 40 b ∷ row 25 50 c ∷ row 90 10 0 ∷ []
@@ -58,7 +57,7 @@ p5 : ℕ → List Row
 p5 m = row 0 4 m ∷ row 3 8 m ∷ row 7 1 m ∷ []
 
 p9-hours : List (List ℕ)
-p9-hours = (0 ∷ 50 ∷ []) ∷ (40 ∷ 100 ∷ []) ∷ []
+p9-hours = hoursFrom 0 50 40 100
 
 p9 : ℕ → List Row
 p9 m = row 45 60 0 ∷ row 50 60 m ∷ row 0 50 0 ∷ []
@@ -88,5 +87,5 @@ Holds [] = Unit {0}
 Holds (c ∷ cs) = (planned (c .lent) (c .before) 16384 ≡ c .gives) × Holds cs
 
 pub bench : Holds cases
-unfolding planned cases on round run closed plan refused nines row p2 p5 p9-hours p9 p12
+unfolding planned cases on round run plan refused nines row p2 p5 p9-hours p9 p12
 bench = (refl, (refl, (refl, (refl, (refl, (refl, (refl, (refl, (refl, (refl, (refl, (refl, tt))))))))))))

@@ -1,46 +1,32 @@
--- A call that passes all checks before 8 has a valid table, and no check before 8 gives 8 or more.
+-- A call that passes all checks before 8 has a valid table, and no check before 8 gives 8.
 use Prim.Native.Nat.{ℕ, zero, suc, _+_, _≤_, _<_}
-use mathlib.Core.Path.{_≡_, refl, ap, _∙_, sym}
-use mathlib.Core.Logic.{_⊎_, inl, inr, ⊎-elim}
-use mathlib.Core.Bool.{Bool, true, false, _&&_}
+use mathlib.Core.Path.{_≡_, refl}
+use mathlib.Core.Logic.{_≢_, ⊎-elim}
+use mathlib.Core.Bool.{Bool, true, false, cond, _&&_}
 use mathlib.Core.List.{List}
 use native.Mathlib.Omega.{arith}
 use native.Mathlib.Nat.{eq-or-lt-of-le}
 use lib.Dec.{leb, eqb}
 use lib.ListN.{length}
 use borrow.Author.Tests.{eqb-true, eqb-false, leb-true}
-use Rattle.labels.specs.Labels.{at}
-use Rattle.labels.proofs.Tests.{leb-iff, eqb-iff, and-iff}
+use Rattle.basics.specs.Lists.{at}
+use Rattle.basics.proofs.Tests.{leb-iff, eqb-iff, and-iff}
 use Rattle.window.specs.declared.Kind.{Kind}
 use Rattle.window.specs.declared.Kind.the-variants.{Round, Run}
 use Rattle.window.specs.Windows.{isWindow}
 use Rattle.window.proofs.Meaning.{window-iff}
-use Rattle.table.specs.declared.Refusal.{Refusal}
-use Rattle.table.specs.declared.Refusal.the-variants.{Accepted, Lists, Rows, Space, Ticks, Hours, Window, Mark}
+use Rattle.refusals.specs.declared.Refusal.{Refusal}
+use Rattle.refusals.specs.declared.Refusal.the-variants.{Lists, Rows, Space, Ticks, Window, Mark}
 use Rattle.table.specs.declared.Looked.{Looked}
-use Rattle.table.specs.Refusals.{numberOf, pick, asked, _then_}
+use Rattle.refusals.specs.Refusals.{numberOf, asked, passes, _then_}
+use Rattle.refusals.proofs.Refusals.{Passed, then-passed, asked-passed, then-either, asked-either}
 use Rattle.table.specs.Tables.{Table, rows, isEven, Valid}
-use Rattle.table.specs.Checks.{listsRefusal, ticksRefusal, isHours, hoursRefusal, rowRefusal, choose, lookFrom, rowsLooked, settingRefusal, tableLooked}
+use Rattle.table.specs.Checks.{listsRefusal, ticksRefusal, isHours, hoursRefusal, rowRefusal, lookFrom, rowsLooked, settingRefusal, tableLooked}
 use Rattle.table.specs.Planned.{spaceBytes, spaceRefusal, checked}
 
--- a check that refuses nothing
-abbrev pub Passed : Refusal → Type 0
-Passed r = numberOf r ≡ 0
-
-pub then-passed : (a b : Refusal) → Passed (a then b) → Passed a × Passed b
-then-passed a b = go (eqb (numberOf a) 0) refl
-  where
-    go : (x : Bool) → eqb (numberOf a) 0 ≡ x → Passed (pick x b a) → Passed a × Passed b
-    go true e p = (eqb-true (numberOf a) 0 e, p)
-    go false e p = absurd (eqb-false (numberOf a) 0 e p)
-
-pub asked-passed : (x : Bool) (r : Refusal) → 1 ≤ numberOf r → Passed (asked x r) → x ≡ true
-asked-passed true r h p = refl
-asked-passed false r h p = absurd (omega arith)
-
-choose-passed : (x : Bool) (a b : Looked) → 1 ≤ numberOf (b .refusal) → Passed (choose x a b .refusal) → (x ≡ true) × Passed (a .refusal)
-choose-passed true a b h p = (refl, p)
-choose-passed false a b h p = absurd (omega arith)
+cond-passed : (x : Bool) (a b : Looked) → 1 ≤ numberOf (b .refusal) → Passed (cond x a b .refusal) → (x ≡ true) × Passed (a .refusal)
+cond-passed true a b h p = (refl, p)
+cond-passed false a b h p = absurd (omega arith)
 
 pub lists-passed : (n e m l : ℕ) → Passed (listsRefusal n e m l) → ((e ≡ n) × (m ≡ n) × (l ≡ n)) × (n ≤ 64)
 unfolding listsRefusal
@@ -49,11 +35,11 @@ lists-passed n e m l p =
     let s = and-iff (and-iff (eqb-iff e n) (eqb-iff m n)) (eqb-iff l n) .0 (asked-passed (eqb e n && eqb m n && eqb l n) Lists (omega arith) (f .0)) in
     ((s .0 .0, s .0 .1, s .1), leb-true n 64 (asked-passed (leb n 64) Rows (omega arith) (f .1)))
 
--- a check r before the others, as `choose` has it
-then-looked : (r : Refusal) (n : ℕ) (rest : Looked) → Passed (choose (eqb (numberOf r) 0) rest (record { refusal = r; rows = n }) .refusal) → Passed r × Passed (rest .refusal)
-then-looked r n rest = go (eqb (numberOf r) 0) refl
+-- a check r before the others, as `cond` has it
+then-looked : (r : Refusal) (n : ℕ) (rest : Looked) → Passed (cond (passes r) rest (record { refusal = r; rows = n }) .refusal) → Passed r × Passed (rest .refusal)
+then-looked r n rest = go (passes r) refl
   where
-    go : (x : Bool) → eqb (numberOf r) 0 ≡ x → Passed (choose x rest (record { refusal = r; rows = n }) .refusal) → Passed r × Passed (rest .refusal)
+    go : (x : Bool) → passes r ≡ x → Passed (cond x rest (record { refusal = r; rows = n }) .refusal) → Passed r × Passed (rest .refusal)
     go true e p = (eqb-true (numberOf r) 0 e, p)
     go false e p = absurd (eqb-false (numberOf r) 0 e p)
 
@@ -86,7 +72,7 @@ module _ (t : Table) where
       → ((length (t .ends) ≡ rows t) × (length (t .marks) ≡ rows t)) × ((i : ℕ) → i < rows t → Passed (rowCheck i))
   unfolding rowsLooked
   rows-passed p =
-      let f = choose-passed _ _ (record { refusal = Lists; rows = 0 }) (omega arith) p in (
+      let f = cond-passed _ _ (record { refusal = Lists; rows = 0 }) (omega arith) p in (
         and-iff (eqb-iff (length (t .ends)) (rows t)) (eqb-iff (length (t .marks)) (rows t)) .0 (f .0),
         λ i h. looked-passed rowCheck 0 (rows t) (f .1) i (omega arith) (omega arith),
       )
@@ -118,51 +104,53 @@ module _ (t : Table) where
       let l = lists-passed (rows t) (length (t .ends)) (length (t .marks)) (length labels) (f .0) in
       (table-passed (then-passed (spaceRefusal space) (tableLooked t .refusal) (f .1) .1) (l .1), l .0 .2)
 
--- ---- no check before 8 gives 8 or more
+-- ---- no check before 8 gives 8
 
-asked-most : (x : Bool) (r : Refusal) → numberOf (asked x r) ≤ numberOf r
-asked-most true r = omega arith
-asked-most false r = omega arith
+pub record Not8 (r : Refusal) : Type 0 where
+  pub not : numberOf r ≢ 8
 
-then-most : (a b : Refusal) → numberOf a ≤ 7 → numberOf b ≤ 7 → numberOf (a then b) ≤ 7
-then-most a b h k = go (eqb (numberOf a) 0)
-  where
-    go : (x : Bool) → numberOf (pick x b a) ≤ 7
-    go true = k
-    go false = h
+-- the check refuses so, where it refuses
+asked-8 : (x : Bool) {r : Refusal} → Not8 r → Not8 (asked x r)
+asked-8 x = asked-either Not8 x (record { not = λ e. omega arith })
 
-choose-most : (x : Bool) (a b : Looked) → numberOf (a .refusal) ≤ 7 → numberOf (b .refusal) ≤ 7 → numberOf (choose x a b .refusal) ≤ 7
-choose-most true a b h k = h
-choose-most false a b h k = k
+cond-8 : (x : Bool) (a b : Looked) → Not8 (a .refusal) → Not8 (b .refusal) → Not8 (cond x a b .refusal)
+cond-8 true a b f g = f
+cond-8 false a b f g = g
 
-look-most : (check : ℕ → Refusal) → ((i : ℕ) → numberOf (check i) ≤ 7) → (i n : ℕ) → numberOf (lookFrom check i n .refusal) ≤ 7
+look-8 : (check : ℕ → Refusal) → ((i : ℕ) → Not8 (check i)) → (i n : ℕ) → Not8 (lookFrom check i n .refusal)
 unfolding lookFrom
-look-most check h i zero = omega arith
-look-most check h i (suc n) = choose-most (eqb (numberOf (check i)) 0) _ _ (look-most check h (i + 1) n) (h i)
+look-8 check h i zero = record { not = λ e. omega arith }
+look-8 check h i (suc n) = cond-8 (passes (check i)) _ _ (look-8 check h (i + 1) n) (h i)
 
-hours-most : (kind : Kind) (R : ℕ) (hours : List (List ℕ)) → numberOf (hoursRefusal kind R hours) ≤ 7
+hours-8 : (kind : Kind) (R : ℕ) (hours : List (List ℕ)) → Not8 (hoursRefusal kind R hours)
 unfolding hoursRefusal
-hours-most Round R hours = omega arith
-hours-most Run R hours = omega (arith, asked-most (isHours hours R 0 && isHours hours R 1) Hours)
+hours-8 Round R hours = record { not = λ e. omega arith }
+hours-8 Run R hours = asked-8 (isHours hours R 0 && isHours hours R 1) (record { not = λ e. omega arith })
 
 module _ (t : Table) where
-  table-most : numberOf (tableLooked t .refusal) ≤ 7
-  unfolding tableLooked settingRefusal ticksRefusal rowsLooked rowRefusal
-  table-most =
-      let ticks = asked (leb 2 (t .ticks) && leb (t .ticks) 43200) Ticks in
-      let hours = hoursRefusal (t .kind) (t .ticks) (t .hours) in
-      choose-most (eqb (numberOf (ticks then hours)) 0) _ _
-      (choose-most (isEven (t .starts) (t .ends) (t .marks)) _ _
-      (look-most _ (λ i. then-most (asked (isWindow (t .kind) (t .ticks) (at (t .starts) i) (at (t .ends) i)) Window) (asked (leb (at (t .marks) i) 1) Mark)
-      (omega (arith, asked-most (isWindow (t .kind) (t .ticks) (at (t .starts) i) (at (t .ends) i)) Window))
-      (omega (arith, asked-most (leb (at (t .marks) i) 1) Mark))) 0 (rows t))
-      (omega arith))
-      (then-most ticks hours (omega (arith, asked-most (leb 2 (t .ticks) && leb (t .ticks) 43200) Ticks)) (hours-most (t .kind) (t .ticks) (t .hours)))
+  row-8 : (i : ℕ) → Not8 (rowCheck t i)
+  unfolding rowRefusal
+  row-8 i = then-either Not8 (asked-8 (isWindow (t .kind) (t .ticks) (at (t .starts) i) (at (t .ends) i)) {r = Window} (record { not = λ e. omega arith })) (asked-8 (leb (at (t .marks) i) 1) {r = Mark} (record { not = λ e. omega arith }))
 
-  pub checked-most : (labels : List ℕ) (space : ℕ) → numberOf (checked t labels space) ≤ 7
+  setting-8 : Not8 (settingRefusal (t .kind) (t .ticks) (t .hours))
+  unfolding settingRefusal ticksRefusal
+  setting-8 = then-either Not8 (asked-8 (leb 2 (t .ticks) && leb (t .ticks) 43200) {r = Ticks} (record { not = λ e. omega arith })) (hours-8 (t .kind) (t .ticks) (t .hours))
+
+  rows-8 : Not8 (rowsLooked (t .kind) (t .ticks) (t .starts) (t .ends) (t .marks) .refusal)
+  unfolding rowsLooked
+  rows-8 = cond-8 (isEven (t .starts) (t .ends) (t .marks)) _ (record { refusal = Lists; rows = 0 }) (look-8 (rowCheck t) row-8 0 (rows t)) (record { not = λ e. omega arith })
+
+  table-8 : Not8 (tableLooked t .refusal)
+  unfolding tableLooked
+  table-8 =
+      let setting = settingRefusal (t .kind) (t .ticks) (t .hours) in
+      cond-8 (passes setting) (rowsLooked (t .kind) (t .ticks) (t .starts) (t .ends) (t .marks)) (record { refusal = setting; rows = 0 }) rows-8 setting-8
+
+  pub checked-8 : (labels : List ℕ) (space : ℕ) → Not8 (checked t labels space)
   unfolding checked listsRefusal spaceRefusal
-  checked-most labels space =
-      let same = eqb (length (t .ends)) (rows t) && eqb (length (t .marks)) (rows t) && eqb (length labels) (rows t) in
-      then-most (asked same Lists then asked (leb (rows t) 64) Rows) (spaceRefusal space then tableLooked t .refusal)
-      (then-most (asked same Lists) (asked (leb (rows t) 64) Rows) (omega (arith, asked-most same Lists)) (omega (arith, asked-most (leb (rows t) 64) Rows)))
-      (then-most (spaceRefusal space) (tableLooked t .refusal) (omega (arith, asked-most (leb spaceBytes space) Space)) table-most)
+  checked-8 labels space =
+      then-either Not8
+      (then-either Not8
+      (asked-8 (eqb (length (t .ends)) (rows t) && eqb (length (t .marks)) (rows t) && eqb (length labels) (rows t)) {r = Lists} (record { not = λ e. omega arith }))
+      (asked-8 (leb (rows t) 64) {r = Rows} (record { not = λ e. omega arith })))
+      (then-either Not8 (asked-8 (leb spaceBytes space) {r = Space} (record { not = λ e. omega arith })) table-8)

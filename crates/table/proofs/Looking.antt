@@ -1,16 +1,16 @@
 -- Laws of the checks of the rows: none looked at, one row more, done.
-use Prim.Native.Nat.{ℕ, zero, suc, _+_, _-_, _≤_, _<_}
-use mathlib.Core.Path.{_≡_, refl, _∙_, sym}
+use Prim.Native.Nat.{ℕ, suc, _+_, _-_, _≤_, _<_}
+use mathlib.Core.Path.{_≡_, refl}
 use mathlib.Core.List.{List}
 use native.Mathlib.Omega.{arith}
 use lib.ListN.{length}
 use borrow.Author.Tests.{eq-eqb, ne-eqb}
-use Rattle.labels.specs.Labels.{at}
+use Rattle.basics.specs.Lists.{at}
 use Rattle.window.specs.declared.Kind.{Kind}
-use Rattle.table.specs.declared.Refusal.{Refusal}
-use Rattle.table.specs.declared.Refusal.the-variants.{Accepted, Lists}
+use Rattle.refusals.specs.declared.Refusal.{Refusal}
+use Rattle.refusals.specs.declared.Refusal.the-variants.{Accepted, Lists}
 use Rattle.table.specs.declared.Looked.{Looked}
-use Rattle.table.specs.Refusals.{numberOf}
+use Rattle.refusals.specs.Refusals.{numberOf}
 use Rattle.table.specs.Checks.{rowRefusal, lookFrom, rowsLooked}
 
 abbrev pub looked : Refusal → ℕ → Looked

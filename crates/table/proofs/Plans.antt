@@ -1,21 +1,19 @@
 -- The test for a plan says what a plan is, for tables that pass their checks, run and round together.
 use Prim.Native.Nat.{ℕ, zero, suc, _≤_, _<_}
 use mathlib.Core.Path.{_≡_, refl, sym, _∙_}
-use mathlib.Core.Logic.{_≢_, _↔_, _⊎_, inl, inr, ⊎-elim, Iff·trans}
+use mathlib.Core.Logic.{_≢_, _↔_}
 use mathlib.Core.Bool.{Bool, true}
 use mathlib.Core.List.{List}
 use native.Mathlib.Omega.{arith}
-use native.Mathlib.Nat.{eq-or-lt-of-le}
 use native.Mathlib.Decide.{decLe}
 use lib.ListN.{length}
-use borrow.Author.Tests.{eq-eqb}
-use Rattle.labels.specs.Labels.{at, Assignment}
-use Rattle.labels.proofs.Tests.{leb-iff, eqb-iff, not-iff, and-iff, imp-iff, every-iff}
+use Rattle.basics.specs.Lists.{at}
+use Rattle.basics.proofs.Tests.{leb-iff, eqb-iff, not-iff, and-iff, imp-iff, every-iff}
 use Rattle.window.specs.declared.Kind.{Kind}
 use Rattle.window.specs.declared.Kind.the-variants.{Round, Run}
-use Rattle.window.specs.Windows.{Overlap}
 use Rattle.window.proofs.Meaning.{overlaps-iff}
-use Rattle.table.specs.Tables.{Table, rows, hour, Open, Allowed, Clash, Plan, Valid, isOpen, isAllowed, isApart, isFit, isPlan}
+use Rattle.table.specs.Tables.{Table, rows, Open, Allowed, Clash, Plan, Valid, isOpen, isAllowed, isApart, isFit, isPlan}
+use Rattle.window.specs.Hours.{hour}
 
 open-iff : (kind : Kind) (hours : List (List ℕ)) (x s e : ℕ) → (isOpen kind hours x s e ≡ true) ↔ Open kind hours x s e
 open-iff Round hours x s e = (λ h. tt, λ h. refl)

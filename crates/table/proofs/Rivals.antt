@@ -1,21 +1,20 @@
 -- Demand 3: the right answer is the best plan, and refusal 8 where there is none; whatever has demand 3's properties is the right answer; and the best plan depends on a table only through `Allowed` and `Clash`.
-use Prim.Native.Nat.{ℕ, _≤_, _<_}
-use mathlib.Core.Path.{_≡_, refl, sym, ap, _∙_}
+use Prim.Native.Nat.{ℕ, _<_}
+use mathlib.Core.Path.{_≡_, refl, ap, _∙_}
 use mathlib.Core.Logic.{_≢_, _↔_}
-use mathlib.Core.Bool.{true}
 use mathlib.Core.List.{List}
 use mathlib.Core.Option.{Option, none, some}
 use native.Mathlib.Omega.{arith}
 use borrow.Author.Tests.{eq-eqb}
-use Rattle.labels.specs.Labels.{at, heard, Earlier, Best, firstBest}
+use Rattle.labels.specs.Labels.{Best}
 use Rattle.labels.proofs.Best.{Passes, first-best, first-none, best-iff, assignment-iff}
-use Rattle.table.specs.declared.Refusal.{Refusal}
-use Rattle.table.specs.declared.Refusal.the-variants.{Accepted, NoPlan}
-use Rattle.table.specs.Refusals.{numberOf}
+use Rattle.refusals.specs.declared.Refusal.the-variants.{Accepted, NoPlan}
+use Rattle.refusals.specs.Refusals.{numberOf}
 use Rattle.table.specs.Tables.{Table, rows, Allowed, Clash, Plan, Valid, isPlan}
-use Rattle.table.specs.Planned.{checked, bestPlan, Planned, given, planned, Demand3}
+use Rattle.table.specs.Planned.{checked, bestPlan, given, planned, Demand3}
 use Rattle.table.proofs.Plans.{plan-iff}
-use Rattle.table.proofs.Checked.{Passed, checked-valid}
+use Rattle.refusals.proofs.Refusals.{Passed}
+use Rattle.table.proofs.Checked.{checked-valid}
 
 module _ (t : Table) (valid : Valid t) where
   -- the lists that the search goes through and that pass its test are the plans: any rival

@@ -1,20 +1,21 @@
 -- Laws of the test for a plan, as its code goes through it: a label's cases, one earlier row more, one row more.
-use Prim.Native.Nat.{ℕ, zero, suc, _+_, _-_, _≤_, _<_}
-use mathlib.Core.Path.{_≡_, refl, _∙_, sym, ap}
-use mathlib.Core.Bool.{Bool, true, false, not, _&&_, and-true, and-false}
+use Prim.Native.Nat.{ℕ, zero, suc, _-_, _≤_, _<_}
+use mathlib.Core.Path.{_≡_, refl, _∙_, sym}
+use mathlib.Core.Bool.{Bool, true, false, not, _&&_, and-false}
 use mathlib.Core.List.{List}
 use native.Mathlib.Omega.{arith}
-use native.Mathlib.Numerals.{add-one, sub-one}
-use native.Mathlib.Nat.{eq-or-lt-of-le, le-of-suc-le-suc}
-use mathlib.Core.Logic.{⊎-elim}
+use native.Mathlib.Numerals.{sub-one}
 use lib.Dec.{leb, eqb}
 use lib.ListN.{length}
 use borrow.Author.Tests.{le-leb, lt-leb, eq-eqb, ne-eqb}
-use Rattle.labels.specs.Labels.{at, _⇒_, every}
+use Rattle.basics.specs.Lists.{at}
+use Rattle.basics.proofs.Tests.{every-fails}
+use Rattle.basics.specs.Tests.{_⇒_, every}
 use Rattle.window.specs.declared.Kind.{Kind}
 use Rattle.window.specs.declared.Kind.the-variants.{Round, Run}
 use Rattle.window.specs.Windows.{overlaps}
-use Rattle.table.specs.Tables.{Table, rows, hour, isOpen, isAllowed, isApart, isFit, isEven, isPlan}
+use Rattle.table.specs.Tables.{Table, rows, isOpen, isAllowed, isApart, isFit, isPlan}
+use Rattle.window.specs.Hours.{hour}
 
 -- ---- one label
 
@@ -49,20 +50,6 @@ allowed-none kind hours start end mark label e = rw e (go kind (eqb mark 1))
     go Round false = refl
     go Run true = refl
     go Run false = refl
-
--- ---- a test of every number below n, from 0 on
-
-pub every-more : (p : ℕ → Bool) (i : ℕ) → every i p ≡ true → p i ≡ true → every (i + 1) p ≡ true
-unfolding every
-every-more p i e q = rw (add-one i, q) e
-
-pub every-fails : (p : ℕ → Bool) (i n : ℕ) → i < n → p i ≡ false → false ≡ every n p
-unfolding every
-every-fails p i zero h e = absurd (omega arith)
-every-fails p i (suc n) h e = ⊎-elim
-    (λ q. rw (← q, e) refl)
-    (λ l. rw (← every-fails p i n l e) (sym (and-false (p n))))
-    (eq-or-lt-of-le (le-of-suc-le-suc h))
 
 -- ---- two rows
 

@@ -1,18 +1,19 @@
 -- The checks of a table, each with the refusal that it gives (paper 01, "Who can cause a no"), in the order in which they are made.
 use Prim.Native.Nat.{ℕ, zero, suc, _+_}
-use mathlib.Core.Bool.{Bool, true, false, _&&_}
+use mathlib.Core.Bool.{Bool, cond, _&&_}
 use mathlib.Core.List.{List}
 use lib.Dec.{leb, eqb}
 use lib.ListN.{length}
-use Rattle.labels.specs.Labels.{at}
+use Rattle.basics.specs.Lists.{at}
 use Rattle.window.specs.declared.Kind.{Kind}
 use Rattle.window.specs.declared.Kind.the-variants.{Round, Run}
 use Rattle.window.specs.Windows.{isWindow}
-use Rattle.table.specs.declared.Refusal.{Refusal}
-use Rattle.table.specs.declared.Refusal.the-variants.{Accepted, Lists, Rows, Space, Ticks, Hours, Window, Mark}
+use Rattle.refusals.specs.declared.Refusal.{Refusal}
+use Rattle.refusals.specs.declared.Refusal.the-variants.{Accepted, Lists, Rows, Ticks, Hours, Window, Mark}
 use Rattle.table.specs.declared.Looked.{Looked}
-use Rattle.table.specs.Refusals.{numberOf, asked, _then_}
-use Rattle.table.specs.Tables.{Table, hour, isEven}
+use Rattle.refusals.specs.Refusals.{asked, passes, _then_}
+use Rattle.table.specs.Tables.{Table, isEven}
+use Rattle.window.specs.Hours.{hour}
 
 -- "1: lent table lists, labels included, differ in length"; "2: more than 64 rows": by the lengths of starts, ends, marks and labels
 unfoldable pub listsRefusal : ℕ → ℕ → ℕ → ℕ → Refusal
@@ -35,20 +36,16 @@ hoursRefusal Run R hours = asked (isHours hours R 0 && isHours hours R 1) Hours
 unfoldable pub rowRefusal : Kind → ℕ → ℕ → ℕ → ℕ → Refusal
 rowRefusal kind R start end mark = asked (isWindow kind R start end) Window then asked (leb mark 1) Mark
 
-abbrev pub choose : Bool → Looked → Looked → Looked
-choose true a b = a
-choose false a b = b
-
 -- "rows from 0": the first refusal among n rows from row i on, and how many rows were looked at
 unfoldable pub lookFrom : (ℕ → Refusal) → ℕ → ℕ → Looked
 lookFrom check i zero = record { refusal = Accepted; rows = i }
-lookFrom check i (suc n) = choose (eqb (numberOf (check i)) 0) (lookFrom check (i + 1) n) (record { refusal = check i; rows = i + 1 })
+lookFrom check i (suc n) = cond (passes (check i)) (lookFrom check (i + 1) n) (record { refusal = check i; rows = i + 1 })
 
 -- rows 0, 1, 2, .. of three lists; lists of unequal length are refused 1 before any row is looked at
 unfoldable pub rowsLooked : Kind → ℕ → List ℕ → List ℕ → List ℕ → Looked
 unfolding lookFrom rowRefusal
 rowsLooked kind R starts ends marks =
-    choose (isEven starts ends marks)
+    cond (isEven starts ends marks)
     (lookFrom (λ i. rowRefusal kind R (at starts i) (at ends i) (at marks i)) 0 (length starts))
     (record { refusal = Lists; rows = 0 })
 
@@ -61,6 +58,6 @@ settingRefusal kind R hours = ticksRefusal R then hoursRefusal kind R hours
 unfoldable pub tableLooked : Table → Looked
 unfolding settingRefusal rowsLooked
 tableLooked t =
-    choose (eqb (numberOf (settingRefusal (t .kind) (t .ticks) (t .hours))) 0)
+    cond (passes (settingRefusal (t .kind) (t .ticks) (t .hours)))
     (rowsLooked (t .kind) (t .ticks) (t .starts) (t .ends) (t .marks))
     (record { refusal = settingRefusal (t .kind) (t .ticks) (t .hours); rows = 0 })

@@ -1,5 +1,4 @@
 -- What the contracts of the crate `table` cite, and what a reader must believe: tables, plans, checks and the right answer.
-pub mod Refusals
 pub mod Tables
 pub mod Checks
 pub mod Planned

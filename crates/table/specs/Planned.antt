@@ -2,16 +2,16 @@
 use Prim.Native.Nat.{ℕ}
 use mathlib.Core.Path.{_≡_}
 use mathlib.Core.Logic.{_↔_}
-use mathlib.Core.Bool.{Bool, true, false, _||_}
+use mathlib.Core.Bool.{cond, _||_}
 use mathlib.Core.List.{List, _++_}
 use mathlib.Core.Option.{Option, none, some}
 use lib.Dec.{leb, eqb}
 use lib.ListN.{length, drop, replicate}
 use Rattle.labels.specs.Labels.{heard, Best, firstBest}
-use Rattle.table.specs.declared.Refusal.{Refusal}
-use Rattle.table.specs.declared.Refusal.the-variants.{Accepted, Space, NoPlan}
-use Rattle.table.specs.declared.Answer.{Answer}
-use Rattle.table.specs.Refusals.{numberOf, asked, _then_}
+use Rattle.refusals.specs.declared.Refusal.{Refusal}
+use Rattle.refusals.specs.declared.Refusal.the-variants.{Accepted, Space, NoPlan}
+use Rattle.refusals.specs.declared.Answer.{Answer}
+use Rattle.refusals.specs.Refusals.{numberOf, answered, asked, passes, _then_}
 use Rattle.table.specs.Tables.{Table, rows, Plan, isPlan}
 use Rattle.table.specs.Checks.{listsRefusal, tableLooked}
 
@@ -45,28 +45,20 @@ pub record Planned : Type 0 where
 -- "8: no plan exists"; a plan "reports the count" and "fills the labels"
 unfoldable pub given : Option (List ℕ) → List ℕ → Planned
 unfolding heard
-given none before = record { answer = record { refusal = NoPlan; count = 0 }; labels = before }
-given (some plan) before = record { answer = record { refusal = Accepted; count = heard plan }; labels = plan }
-
-abbrev pub decide : Bool → Planned → Planned → Planned
-decide true a b = a
-decide false a b = b
+given none before = record { answer = answered NoPlan 0; labels = before }
+given (some plan) before = record { answer = answered Accepted (heard plan); labels = plan }
 
 -- The planner's answer for a table, a label list that held `before`, and working space of so many bytes. "The first that applies is reported, with count 0. Outputs .. are untouched."
 unfoldable pub planned : Table → List ℕ → ℕ → Planned
 unfolding checked bestPlan given
 planned t before space =
-    decide (eqb (numberOf (checked t before space)) 0)
+    cond (passes (checked t before space))
     (given (bestPlan t) before)
-    (record { answer = record { refusal = checked t before space; count = 0 }; labels = before })
-
-abbrev pub pickList : Bool → List ℕ → List ℕ → List ℕ
-pickList true a b = a
-pickList false a b = b
+    (record { answer = answered (checked t before space) 0; labels = before })
 
 -- What the working space holds after a call with this refusal: an accepted call "clears to zero the first 16,384 bytes"; "Bytes beyond are untouched"; "8 clears the same 16,384 bytes"; otherwise it is untouched.
 unfoldable pub spaceAfter : Refusal → List ℕ → List ℕ
-spaceAfter r space = pickList (eqb (numberOf r) 0 || eqb (numberOf r) 8) (replicate spaceBytes 0 ++ drop spaceBytes space) space
+spaceAfter r space = cond (passes r || eqb (numberOf r) 8) (replicate spaceBytes 0 ++ drop spaceBytes space) space
 
 -- ---- demand 3
 

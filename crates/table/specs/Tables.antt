@@ -4,11 +4,14 @@ use mathlib.Core.Path.{_≡_}
 use mathlib.Core.Logic.{_≢_}
 use mathlib.Core.Bool.{Bool, true, not, _&&_}
 use mathlib.Core.List.{List, []}
-use lib.Dec.{leb, ltb, eqb}
-use lib.ListN.{length, getD}
-use Rattle.labels.specs.Labels.{at, Assignment, _⇒_, every}
+use lib.Dec.{leb, eqb}
+use lib.ListN.{length}
+use Rattle.basics.specs.Lists.{at}
+use Rattle.labels.specs.Labels.{Assignment}
+use Rattle.basics.specs.Tests.{_⇒_, every}
 use Rattle.window.specs.declared.Kind.{Kind}
 use Rattle.window.specs.declared.Kind.the-variants.{Round, Run}
+use Rattle.window.specs.Hours.{hour}
 use Rattle.window.specs.Windows.{Overlap, Window, overlaps}
 
 -- "The table is lent as three lists, starts, ends and marks", for a round or a run of R ticks, in a run with the receivers' open hours
@@ -26,10 +29,6 @@ table kind ticks hours starts ends marks =
 
 abbrev pub rows : Table → ℕ
 rows t = length (t .starts)
-
--- "the two receivers' open hours are two pairs, from p to q": receiver 1 at r = 0, receiver 2 at r = 1; p at k = 0, q at k = 1
-abbrev pub hour : List (List ℕ) → ℕ → ℕ → ℕ
-hour hours r k = getD (getD hours r []) k 0
 
 -- ---- plans
 

@@ -4,7 +4,7 @@ ghost use Prim.Native.Nat.{_<_};
 ghost use Rattle.table.specs.Tables.{table};
 ghost use Rattle.table.specs.Checks.{listsRefusal, ticksRefusal, isHours, hoursRefusal, settingRefusal, rowRefusal, rowsLooked, tableLooked};
 use crate::Looked;
-use crate::Refusal;
+use refusals::Refusal;
 use window::Kind;
 
 // Checks 1 and 2, by the lengths of the four lists.
@@ -71,7 +71,7 @@ pub fn check_setting(kind: Kind, ticks: u16, hours: [[u16; 2]; 2]) -> Refusal
     ensures { λ r. ⌜ r ≡ settingRefusal kind ticks hours ⌝ }
 {
     let refusal = check_ticks(ticks);
-    if crate::number(refusal) != 0 {
+    if refusals::number(refusal) != 0 {
         return refusal;
     }
     check_hours(kind, ticks, hours)
@@ -109,7 +109,7 @@ pub fn check_rows(kind: Kind, ticks: u16, starts: &[u16], ends: &[u16], marks: &
     let mut i = 0;
     while i < starts.len() {
         let refusal = check_row(kind, ticks, starts[i], ends[i], marks[i]);
-        if crate::number(refusal) != 0 {
+        if refusals::number(refusal) != 0 {
             return Looked {
                 refusal,
                 rows: i + 1,
@@ -135,7 +135,7 @@ pub fn check_table(
     ensures { λ r. ⌜ r ≡ tableLooked (table kind ticks hours (now (starts .entry)) (now (ends .entry)) (now (marks .entry))) ⌝ }
 {
     let refusal = check_setting(kind, ticks, hours);
-    if crate::number(refusal) != 0 {
+    if refusals::number(refusal) != 0 {
         return Looked { refusal, rows: 0 };
     }
     check_rows(kind, ticks, starts, ends, marks)

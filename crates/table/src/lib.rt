@@ -1,54 +1,11 @@
-// Tables of windows: the refusals, the checks of a table, and the test whether labels are a plan.
-ghost use mathlib.Core.Path.{_≡_};
-ghost use Rattle.table.specs.Refusals.{numberOf};
+// Tables of windows: the checks of a table, and the test whether labels are a plan.
+use refusals::Refusal;
 
 pub mod checks;
 pub mod plan;
-
-// Why a call is refused, or that it is accepted.
-pub enum Refusal {
-    Accepted,
-    Lists,
-    Rows,
-    Space,
-    Ticks,
-    Hours,
-    Window,
-    Mark,
-    NoPlan,
-    NotPlan,
-    Buffer,
-    Form,
-}
-
-// What a call reports.
-pub struct Answer {
-    pub refusal: Refusal,
-    pub count: usize,
-}
 
 // What the checks of the rows report: the first refusal, and how many rows were looked at.
 pub struct Looked {
     pub refusal: Refusal,
     pub rows: usize,
-}
-
-// The refusal's number in paper 01; 0 for accepted.
-pub fn number(refusal: Refusal) -> u8
-    ensures { λ r. ⌜ r ≡ numberOf refusal ⌝ }
-{
-    match refusal {
-        Refusal::Accepted => 0,
-        Refusal::Lists => 1,
-        Refusal::Rows => 2,
-        Refusal::Space => 3,
-        Refusal::Ticks => 4,
-        Refusal::Hours => 5,
-        Refusal::Window => 6,
-        Refusal::Mark => 7,
-        Refusal::NoPlan => 8,
-        Refusal::NotPlan => 9,
-        Refusal::Buffer => 10,
-        Refusal::Form => 11,
-    }
 }

@@ -3,7 +3,7 @@ ghost use mathlib.Core.Path.{_≡_};
 ghost use mathlib.Core.Bool.{true};
 ghost use mathlib.Core.Logic.{_↔_};
 ghost use Prim.Native.Nat.{_≤_};
-ghost use Rattle.labels.specs.Labels.{every};
+ghost use Rattle.basics.specs.Tests.{every};
 ghost use Rattle.table.specs.Tables.{table, Plan, isOpen, isAllowed, isApart, isPlan, Paired, Valid};
 use window::Kind;
 

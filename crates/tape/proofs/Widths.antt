@@ -7,8 +7,8 @@ use native.Mathlib.Omega.{arith}
 use native.Mathlib.Decide.{decLt}
 use borrow.Author.Tests.{ne-eqb}
 use lib.ListN.{getD, replicate}
-use Rattle.labels.specs.Labels.{every}
-use Rattle.labels.proofs.Tests.{every-iff, imp-iff, eqb-iff, leb-iff}
+use Rattle.basics.specs.Tests.{every}
+use Rattle.basics.proofs.Tests.{every-iff, imp-iff, eqb-iff, leb-iff}
 use Rattle.tape.specs.Commands.{isCommand, operandBytes}
 
 -- sixteen places a line, from command 00

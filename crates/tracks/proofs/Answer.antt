@@ -6,7 +6,7 @@ use mathlib.Core.List.{List}
 use native.Mathlib.Omega.{arith}
 use lib.ListN.{length, drop, take, length-drop}
 use lib.Seq.{drop-drop, take-all}
-use Rattle.labels.specs.Labels.{at, heard}
+use Rattle.basics.specs.Lists.{at}
 use Rattle.labels.proofs.Heard.{heard-le}
 use Rattle.arcs.specs.Arcs.{Arcs, Meet, Assigned}
 use Rattle.arcs.specs.Order.{Arranged}

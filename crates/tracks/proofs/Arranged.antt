@@ -1,52 +1,43 @@
 -- Arcs that `arrange` has put in order: their assignments in order hear as many as those of the arcs as they came.
-use Prim.Native.Nat.{ℕ, zero, suc, _≤_, _<_}
-use mathlib.Core.Path.{_≡_, refl, sym, ap, _∙_}
+use Prim.Native.Nat.{ℕ, _≤_, _<_}
+use mathlib.Core.Path.{_≡_, sym, ap, _∙_}
 use mathlib.Core.Logic.{_↔_}
-use mathlib.Core.List.{List, [], _∷_, map}
+use mathlib.Core.List.{List, []}
 use native.Mathlib.Omega.{arith}
 use lib.ListN.{length, drop, length-map}
 use lib.Seq.{ext-getD}
-use Rattle.labels.specs.Labels.{at}
+use Rattle.basics.specs.Lists.{at}
 use Rattle.labels.proofs.Best.{assignment-iff}
 use Rattle.arcs.specs.Arcs.{Arcs, Assigned}
 use Rattle.arcs.specs.Positions.{Placed}
 use Rattle.arcs.specs.Order.{Rearranged, same, exchanged, Counted, Arranged}
 use Rattle.arcs.proofs.Cut.{meet-clear}
+use Rattle.arcs.proofs.Rearranging.{rearranged-length}
 use Rattle.pairs.specs.Pairs.{gathered, Cleared}
 use Rattle.line.specs.Cells.{Lows}
 use Rattle.pairs.specs.Capped.{Ready}
 use Rattle.tracks.specs.Narrowing.{Ordered}
 use Rattle.tracks.proofs.Alike.{Alike, alike-same, alike-sym, alike-trans, alike-iff}
-use Rattle.tracks.proofs.Exchange.{swap-length, map-swap, swap-each, exchange-alike}
-
-pub at-map : (f : ℕ → ℕ) (l : List ℕ) (i : ℕ) → i < length l → at (map f l) i ≡ f (at l i)
-at-map f [] i h = absurd (omega arith)
-at-map f (x ∷ l) zero h = refl
-at-map f (x ∷ l) (suc i) h = at-map f l i (omega arith)
+use Rattle.basics.proofs.Lists.{at-map}
+use Rattle.basics.proofs.Swaps.{map-swap, swap-each}
+use Rattle.tracks.proofs.Exchange.{exchange-alike}
 
 gathered-length : (order perms : List ℕ) → length (gathered order perms) ≡ length order
 gathered-length order perms = length-map order (λ i. at perms i)
 
 module _ {xs ys zs : List ℕ} where
-  -- a rearrangement keeps the lengths
-  pub rearranged-lengths : {xs′ ys′ zs′ : List ℕ} → Rearranged xs ys zs xs′ ys′ zs′ → (length xs′ ≡ length xs) × (length ys′ ≡ length ys) × (length zs′ ≡ length zs)
-  rearranged-lengths same = (refl, refl, refl)
-  rearranged-lengths (exchanged k {xs′} {ys′} {zs′} R) =
-      let e = rearranged-lengths R in
-      (swap-length k xs′ ∙ e .0, swap-length k ys′ ∙ e .1, swap-length k zs′ ∙ e .2)
-
   -- what holds of every entry holds in another order
   pub rearranged-each : (P : ℕ → Type 0) {xs′ ys′ zs′ : List ℕ} → Rearranged xs ys zs xs′ ys′ zs′ → ((i : ℕ) → i < length zs → P (at zs i)) → (i : ℕ) → i < length zs → P (at zs′ i)
   rearranged-each P same f i h = f i h
   rearranged-each P (exchanged k {zs′} R) f i h =
-      let e : length zs′ ≡ length zs = rearranged-lengths R .2 in
+      let e : length zs′ ≡ length zs = rearranged-length R .2 in
       swap-each P k zs′ (λ j g. rearranged-each P R f j (omega arith)) i (omega arith)
 
   module _ (each-end : length ys ≡ length xs) (each-order : length zs ≡ length xs) (perms : List ℕ) where
     pub rearranged-alike : {xs′ ys′ zs′ : List ℕ} → Rearranged xs ys zs xs′ ys′ zs′ → Alike (Cleared xs ys (gathered zs perms)) (Cleared xs′ ys′ (gathered zs′ perms))
     rearranged-alike same = alike-same
     rearranged-alike (exchanged k {xs′} {ys′} {zs′} R) =
-        let e = rearranged-lengths R in
+        let e = rearranged-length R in
         alike-trans (rearranged-alike R)
         (rw (map-swap (λ i. at perms i) k zs′)
         (exchange-alike k xs′ ys′ (gathered zs′ perms) (e .1 ∙ each-end ∙ sym (e .0)) (gathered-length zs′ perms ∙ e .2 ∙ each-order ∙ sym (e .0))))
@@ -64,7 +55,7 @@ placed-iff {ss} perms A h P = rw (P .each-position) (assignment-iff (length ss) 
 
 module _ {C : ℕ} {ss ls ps es order : List ℕ} {m : ℕ} (A : Arcs C ss ls) (R : Arranged C ss ls ps es order m) where
   lengths : (length (R .ends₀) ≡ length (R .positions₀)) × (length (R .order₀) ≡ length (R .positions₀)) × (length ps ≡ length ss)
-  lengths = (R .placed .each-end ∙ sym (R .placed .each-position), R .counted .each ∙ sym (R .placed .each-position), rearranged-lengths (R .rearranged) .0 ∙ R .placed .each-position)
+  lengths = (R .placed .each-end ∙ sym (R .placed .each-position), R .counted .each ∙ sym (R .placed .each-position), rearranged-length (R .rearranged) .0 ∙ R .placed .each-position)
 
   pub arranged-alike : (perms : List ℕ) → length perms ≡ length ss → Alike (Ordered ps es order perms) (Assigned C ss ls perms)
   arranged-alike perms e =
@@ -85,7 +76,7 @@ module _ {C : ℕ} {ss ls ps es order : List ℕ} {m : ℕ} (A : Arcs C ss ls) (
   -- what the oracle is lent, once the low rows are set
   pub arranged-ready : (perms left : List ℕ) {space : List ℕ} {cap : ℕ} → length perms ≡ length ss → length left ≡ length ss → 1 ≤ cap → Lows (drop m ps) (drop m es) space → Ready ps es order perms m cap left space
   arranged-ready perms left e f h L =
-      let g = rearranged-lengths (R .rearranged) in
+      let g = rearranged-length (R .rearranged) in
       record {
         few = rw (lengths .2) (A .few);
         each-end = g .1 ∙ lengths .0 ∙ sym (g .0);

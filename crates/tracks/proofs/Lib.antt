@@ -2,7 +2,6 @@
 pub mod Alike
 pub mod Exchange
 pub mod Arranged
-pub mod Permissions
 pub mod Narrowing
 pub mod Trying
 pub mod Progress

@@ -8,13 +8,14 @@ use native.Mathlib.Omega.{arith}
 use native.Mathlib.Decide.{decLt, ℕ-discrete}
 use lib.ListN.{length, set, length-map, length-set}
 use lib.Seq.{ext-getD, getD-set-same, getD-set-other}
-use Rattle.labels.specs.Labels.{at, heard, place, Earlier, Assignment, Best}
+use Rattle.basics.specs.Lists.{at}
+use Rattle.labels.specs.Labels.{heard, place, Earlier, Assignment, Best}
 use Rattle.labels.specs.Permission.{permits, only, labelOf}
 use Rattle.tracks.specs.Tracks.{Most, Answered}
 use Rattle.tracks.specs.Narrowing.{CannotHave, CanHave, Chosen, Narrowed, none, more}
 use Rattle.tracks.proofs.Alike.{Alike, capped-alike}
-use Rattle.tracks.proofs.Arranged.{at-map}
-use Rattle.tracks.proofs.Permissions.{permits-label, permits-only, only-permits, label-only, place-only, earlier-at}
+use Rattle.basics.proofs.Lists.{at-map}
+use Rattle.labels.proofs.Permissions.{permits-label, permits-only, only-permits, label-only, place-only, earlier-at}
 
 -- a number is below another, or above it, or it is the other
 compared : (a b : ℕ) → (a < b) ⊎ ((a ≡ b) ⊎ (b < a))

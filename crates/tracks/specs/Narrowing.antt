@@ -5,7 +5,8 @@ use mathlib.Core.Bool.{Bool, true, false}
 use mathlib.Core.List.{List}
 use Prim.Native.Nat.{ℕ, suc, _≤_, _<_}
 use lib.ListN.{length, set}
-use Rattle.labels.specs.Labels.{at, place}
+use Rattle.basics.specs.Lists.{at}
+use Rattle.labels.specs.Labels.{place}
 use Rattle.labels.specs.Permission.{permits, only}
 use Rattle.pairs.specs.Pairs.{gathered, Cleared}
 use Rattle.pairs.specs.Capped.{Capped, Ready}

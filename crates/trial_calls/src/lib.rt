@@ -1,7 +1,7 @@
 // Calls of the planner and of the plan tape writer, each judged whole: the refusal's number, the count, every place of the list that is written,
 // every byte of the working space.
 ghost use Prim.Native.Nat.{_≤_};
-use table::Answer;
+use refusals::Answer;
 use window::Kind;
 
 // What labels, working space and tape buffer hold before a call.
@@ -34,7 +34,7 @@ pub fn first_bytes(list: &[u8], n: usize) -> &[u8] {
 // Whether a call reports the number and the count.
 fn is_answer(answer: Answer, number: u8, count: usize) -> bool {
     let refusal = answer.refusal;
-    if table::number(refusal) != number {
+    if refusals::number(refusal) != number {
         return false;
     }
     answer.count == count

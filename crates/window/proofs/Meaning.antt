@@ -5,9 +5,9 @@ use mathlib.Core.Logic.{_≢_, _↔_, _⊎_, inl, inr, ⊎-elim}
 use mathlib.Core.Bool.{Bool, true, false, cond, _&&_, _||_, false≢true, or-true}
 use native.Mathlib.Omega.{arith}
 use native.Mathlib.Nat.{le-of-lt}
-use lib.Dec.{leb, ltb, eqb}
+use lib.Dec.{leb, ltb}
 use borrow.Author.Tests.{ltb-true, lt-ltb, le-ltb, le-leb, eq-eqb, ne-eqb}
-use Rattle.labels.proofs.Tests.{Test, pass, fail, test, bool-ext, leb-iff, ltb-iff, eqb-iff, and-iff, not-iff}
+use Rattle.basics.proofs.Tests.{Test, pass, fail, test, bool-ext, leb-iff, ltb-iff, eqb-iff, and-iff, not-iff}
 use Rattle.window.specs.declared.Kind.{Kind}
 use Rattle.window.specs.declared.Kind.the-variants.{Round, Run}
 use Rattle.window.specs.Ticks.{Ticks, distance}

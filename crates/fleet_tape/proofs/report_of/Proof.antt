@@ -35,12 +35,12 @@ use denote.Triple.Walked.{says, Stays, stay-none, walkOf, goes-none, Walks, ends
 use denote.Exit.{yes}
 use Rattle.fleet_tape.specs.declared.Report.{Report}
 use Rattle.window.specs.declared.Kind.{Kind}
-use Rattle.table.specs.declared.Refusal.{Refusal}
+use Rattle.refusals.specs.declared.Refusal.{Refusal}
 use Rattle.fleet_tape.proofs.Report as T
 use Rattle.window.proofs.Kind as K
 use Rattle.window.proofs.Kind.Laws as K′
-use Rattle.table.proofs.Refusal as F
-use Rattle.table.proofs.Refusal.Laws as F′
+use Rattle.refusals.proofs.Refusal as F
+use Rattle.refusals.proofs.Refusal.Laws as F′
 use Rattle.fleet_tape.proofs.Report.Laws as T′
 use Rattle.fleet_tape.proofs.report_of.Key.{name as #fleet_tape·report-of}
 use Rattle.fleet_tape.proofs.report_of as mk

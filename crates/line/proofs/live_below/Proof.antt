@@ -1,5 +1,4 @@
 -- `live_below`: the last rows from a + 1 to m are over.
-use Prim.Native.Nat.{_-_}
 use native.Mathlib.Omega.{arith}
 use Rattle.line.specs.Stage.{LiveBelow}
 use Rattle.line.proofs.Turns.{live-none, live-less, live-low}

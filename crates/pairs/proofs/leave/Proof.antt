@@ -1,11 +1,11 @@
 -- `pairs::leave` meets its contract: the loop has written what the pair leaves of the permissions that it passed, none of them 0.
 use Prim.Native.Nat.{ℕ, _≤_, _-_}
 use mathlib.Core.Path.{_≡_, refl, sym, subst, _∙_}
-use mathlib.Core.Bool.{true, false, false≢true}
+use mathlib.Core.Bool.{false≢true}
 use native.Mathlib.Omega.{arith}
 use borrow.Author.Needs.{needs}
 use lib.ListN.{length, length-set}
-use Rattle.labels.specs.Labels.{at}
+use Rattle.basics.specs.Lists.{at}
 use Rattle.pairs.specs.Pairs.{gathered, leftOf, LeftAll}
 use Rattle.pairs.proofs.Leaves.{left-all-none, left-all-more, left-gathered}
 use Rattle.pairs.proofs.leave.Statement.{statement}

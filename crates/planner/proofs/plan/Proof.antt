@@ -2,9 +2,8 @@
 use Rattle.table.specs.Tables.{table}
 use Rattle.planner.proofs.Answering.{lists-refuses, space-refuses, table-checked, refused-said, ready, answer-said}
 use Rattle.table.specs.Planned.{spaceBytes}
-use Rattle.table.specs.Refusals.{numberOf}
-use Rattle.table.specs.declared.Refusal.the-variants.{Space}
-use lib.ListN.{length}
+use Rattle.refusals.specs.Refusals.{numberOf}
+use Rattle.refusals.specs.declared.Refusal.the-variants.{Space}
 use mathlib.Core.Path.{_≡_, _∙_, sym, ap}
 use native.Mathlib.Omega.{arith}
 use borrow.Author.Needs.{needs}

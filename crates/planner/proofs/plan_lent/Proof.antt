@@ -1,8 +1,7 @@
 -- `planner::plan_lent` meets its contract: the core answers for the arcs and permissions that the rows are turned into.
 use Rattle.planner.proofs.Answering.{none-given, one-given}
 use Rattle.planner.proofs.Turning.{turned-arcs}
-use mathlib.Core.Path.{_≡_, _∙_, sym}
-use native.Mathlib.Omega.{arith}
+use mathlib.Core.Path.{_∙_, sym}
 use borrow.Author.Needs.{needs}
 use Rattle.planner.proofs.plan_lent.Statement.{statement}
 use Rattle.planner.proofs.plan_lent.Tie as tie

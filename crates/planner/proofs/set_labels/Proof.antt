@@ -1,24 +1,22 @@
 -- `planner::set_labels` meets its contract: the labels passed are those of the permissions.
-use Rattle.arcs.proofs.Written.{Written, written-none, written-more}
-use Rattle.planner.proofs.Turning.{labels-done}
+use Rattle.basics.proofs.Filling.{Filled, filled-none, filled-more, filled-map}
 use Rattle.labels.specs.Permission.{labelOf}
-use Rattle.labels.specs.Labels.{at}
+use Rattle.basics.specs.Lists.{at}
 use lib.ListN.{length}
 use borrow.Author.Needs.{needs}
 use native.Mathlib.Omega.{arith}
-use mathlib.Core.Path.{_≡_, _∙_, sym}
-use Prim.Native.Nat.{ℕ, _<_, _≤_, _-_}
+use Prim.Native.Nat.{_≤_, _-_}
 use Rattle.planner.proofs.set_labels.Statement.{statement}
 use Rattle.planner.proofs.set_labels.Tie as tie
 
 abbrev Inv-loop : tie.InvT-loop
-Inv-loop perms labels₀ i₀ labels i = (i ≤ length perms) × Written (λ k. labelOf (at perms k)) i labels₀ labels
+Inv-loop perms labels₀ i₀ labels i = (i ≤ length perms) × Filled (λ k. labelOf (at perms k)) i labels₀ labels
 
 abbrev μ-loop : tie.MeasureT-loop
 μ-loop perms labels₀ i₀ labels i = length perms - i
 
 loop-holds : tie.Need-loop-holds Inv-loop μ-loop
-loop-holds c = (omega arith, written-none _ _)
+loop-holds c = (omega arith, filled-none _ _)
 
 shared-slice-read-label-of : tie.Need-shared-slice-read-label-of Inv-loop μ-loop
 shared-slice-read-label-of c = omega arith
@@ -38,7 +36,7 @@ loop-less c = omega arith
 loop-again : tie.Need-loop-again Inv-loop μ-loop
 loop-again c =
     let l = c .before .before .before .loop in
-    (omega arith, written-more (l .inv .1) (omega arith) (c .label-of .ensures))
+    (omega arith, filled-more (l .inv .1) (omega arith) (c .label-of .ensures))
 
 same-length : tie.Need-same-length Inv-loop μ-loop
 same-length c = c .before .loop .inv .1 .each
@@ -46,7 +44,7 @@ same-length c = c .before .loop .inv .1 .each
 returns : tie.Need-returns Inv-loop μ-loop
 returns c =
     let l = c .before .loop in
-    labels-done (c .before .before .before .before .args .perms .now) (l .i) (omega arith) (omega arith) (l .inv .1)
+    filled-map labelOf (c .before .before .before .before .args .perms .now) (l .i) (omega arith) (omega arith) (l .inv .1)
 
 pub set-labels-spec : {M : Type 1} → statement M
 set-labels-spec =

@@ -1,13 +1,13 @@
 -- `planner::turn` meets its contract: the rows passed are turned into arcs and permissions.
 use Rattle.planner.proofs.Turning.{turned-done}
-use Rattle.arcs.proofs.Written.{Written, written-none, written-more}
+use Rattle.basics.proofs.Filling.{Filled, filled-none, filled-more}
 use Rattle.planner.specs.Turned.{permissionOf}
 use Rattle.window.specs.Windows.{ticksIn}
-use Rattle.labels.specs.Labels.{at}
-use lib.ListN.{length, length-set}
+use Rattle.basics.specs.Lists.{at}
+use lib.ListN.{length}
 use borrow.Author.Needs.{needs}
-use mathlib.Core.Path.{_≡_, refl, _∙_}
-use Prim.Native.Nat.{ℕ, _≤_, _-_}
+use mathlib.Core.Path.{refl}
+use Prim.Native.Nat.{_≤_, _-_}
 use native.Mathlib.Omega.{arith}
 use Rattle.planner.proofs.turn.Statement.{statement}
 use Rattle.planner.proofs.turn.Tie as tie
@@ -15,15 +15,15 @@ use Rattle.planner.proofs.turn.Tie as tie
 abbrev Inv-loop : tie.InvT-loop
 Inv-loop kind ticks hours starts ends marks arc-starts₀ arc-lengths₀ perms₀ i₀ arc-starts arc-lengths perms i =
     (i ≤ length starts)
-    × Written (at starts) i arc-starts₀ arc-starts
-    × Written (λ k. ticksIn kind ticks (at starts k) (at ends k)) i arc-lengths₀ arc-lengths
-    × Written (λ k. permissionOf kind hours (at starts k) (at ends k) (at marks k)) i perms₀ perms
+    × Filled (at starts) i arc-starts₀ arc-starts
+    × Filled (λ k. ticksIn kind ticks (at starts k) (at ends k)) i arc-lengths₀ arc-lengths
+    × Filled (λ k. permissionOf kind hours (at starts k) (at ends k) (at marks k)) i perms₀ perms
 
 abbrev μ-loop : tie.MeasureT-loop
 μ-loop kind ticks hours starts ends marks arc-starts₀ arc-lengths₀ perms₀ i₀ arc-starts arc-lengths perms i = length starts - i
 
 loop-holds : tie.Need-loop-holds Inv-loop μ-loop
-loop-holds c = (omega arith, written-none _ _, written-none _ _, written-none _ _)
+loop-holds c = (omega arith, filled-none _ _, filled-none _ _, filled-none _ _)
 
 mul-start : tie.Need-mul-start Inv-loop μ-loop
 mul-start c = omega arith
@@ -72,9 +72,9 @@ loop-again c =
     let l = c .before .before .before .before .before .before .loop in
     let room = c .before .before .before .before .before .before .before .before .before .before .before .before .before .pre .1 in (
       omega arith,
-      written-more (l .inv .1) (omega (arith, room .each-start)) refl,
-      written-more (l .inv .2) (omega (arith, room .each-length)) (c .before .before .ticks-in .ensures),
-      written-more (l .inv .3) (omega (arith, room .each-perm)) (c .permission .ensures),
+      filled-more (l .inv .1) (omega (arith, room .each-start)) refl,
+      filled-more (l .inv .2) (omega (arith, room .each-length)) (c .before .before .ticks-in .ensures),
+      filled-more (l .inv .3) (omega (arith, room .each-perm)) (c .permission .ensures),
     )
 
 same-length : tie.Need-same-length Inv-loop μ-loop

@@ -3,14 +3,14 @@ use Prim.Native.Nat.{_-_, _≤_}
 use native.Mathlib.Omega.{arith}
 use lib.ListN.{length, take}
 use lib.Seq.{take-all, length-take-le}
-use Rattle.reply.specs.Put.{Put}
-use Rattle.reply.proofs.Putting.{put-none, put-more, put-text, put-length}
+use Rattle.basics.specs.Lists.{Put}
+use Rattle.basics.proofs.Puts.{put-none, put-more, put-text, put-length}
 use borrow.Author.Needs.{needs}
 use Rattle.reply.proofs.put.Statement.{statement}
 use Rattle.reply.proofs.put.Tie as tie
 
 abbrev Inv-loop : tie.InvT-loop
-Inv-loop out₀ place bytes at₀ i₀ out at i = (i ≤ length bytes) × Put out₀ out place (take i bytes) at
+Inv-loop out₀ place bytes at₀ i₀ out at i = (i ≤ length bytes) × Put out₀ place (take i bytes) out at
 
 abbrev μ-loop : tie.MeasureT-loop
 μ-loop out₀ place bytes at₀ i₀ out at i = length bytes - i
@@ -24,12 +24,12 @@ shared-slice-read-out c = omega arith
 slice-write-out : tie.Need-slice-write-out Inv-loop μ-loop
 slice-write-out c =
     let l = c .before .before .loop in
-    omega (arith, l .inv .1 .next-is, put-length (l .inv .1), length-take-le (l .i) (c .before .before .before .args .bytes .now) (l .inv .0))
+    omega (arith, l .inv .1 .ends, put-length (l .inv .1), length-take-le (l .i) (c .before .before .before .args .bytes .now) (l .inv .0))
 
 add-at : tie.Need-add-at Inv-loop μ-loop
 add-at c =
     let l = c .before .before .loop in
-    omega (arith, l .inv .1 .next-is, length-take-le (l .i) (c .before .before .before .args .bytes .now) (l .inv .0))
+    omega (arith, l .inv .1 .ends, length-take-le (l .i) (c .before .before .before .args .bytes .now) (l .inv .0))
 
 add-i : tie.Need-add-i Inv-loop μ-loop
 add-i c = omega arith

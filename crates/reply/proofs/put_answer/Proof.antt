@@ -2,8 +2,9 @@
 use mathlib.Core.Path.{sym, _∙_}
 use native.Mathlib.Omega.{arith}
 use Rattle.reply.specs.Lines.{heardWord}
-use Rattle.reply.specs.Put.{answerOf}
-use Rattle.reply.proofs.Putting.{put-text, put-both, put-length, word-length}
+use Rattle.reply.specs.Room.{answerOf}
+use Rattle.basics.proofs.Puts.{put-text, put-then, put-length}
+use Rattle.reply.proofs.Putting.{word-length}
 use Rattle.reply.proofs.Replying.{printed-heard, printed-refused}
 use borrow.Author.Needs.{needs}
 use Rattle.reply.proofs.put_answer.Statement.{statement}
@@ -38,7 +39,7 @@ put-rows-requires c κs =
     let e = c .before .before .before .put-word .ensures in
     record {
       each = p .labels z;
-      fits = omega (arith, p .labels z .few, p .fits, e .next-is, put-length e, word-length heardWord (c .before .before .before .before .before .before .before .before .before .before .args .answer .count) (p .count z));
+      fits = omega (arith, p .labels z .few, p .fits, e .ends, put-length e, word-length heardWord (c .before .before .before .before .before .before .before .before .before .before .args .answer .count) (p .count z));
     }
 
 same-length-2 : tie.Need-same-length-2
@@ -48,7 +49,7 @@ returns-2 : tie.Need-returns-2
 returns-2 c =
     let a = c .before .before .before .before .before .before .before .before .before .before .before .before .before .args in
     let z = sym (c .before .before .before .before .before .before .before .before .before .before .number .ensures) ∙ c .before .before .before .before .before .before .before .before .before .if1 .left in
-    put-text (sym (printed-heard (answerOf (a .answer) (a .labels .now)) z)) (put-both (c .before .before .before .before .before .before .put-word .ensures) (c .before .before .put-rows .ensures))
+    put-text (sym (printed-heard (answerOf (a .answer) (a .labels .now)) z)) (put-then (c .before .before .before .before .before .before .put-word .ensures) (c .before .before .put-rows .ensures))
 
 pub put-answer-spec : {M : Type 1} → statement M
 put-answer-spec =

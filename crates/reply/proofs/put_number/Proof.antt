@@ -3,7 +3,8 @@ use mathlib.Core.Path.{sym, ap, ap₂, _∙_}
 use mathlib.Core.List.{[], _∷_}
 use native.Mathlib.Omega.{arith}
 use lib.ListN.{length-set}
-use Rattle.reply.proofs.Putting.{put-one, put-two, put-text, one-digit, two-digits}
+use Rattle.basics.proofs.Puts.{put-one, put-two, put-text}
+use Rattle.reply.proofs.Putting.{one-digit, two-digits}
 use borrow.Author.Needs.{needs}
 use Rattle.reply.proofs.put_number.Statement.{statement}
 use Rattle.reply.proofs.put_number.Tie as tie

@@ -2,7 +2,8 @@
 use mathlib.Core.Path.{ap, _∙_}
 use native.Mathlib.Omega.{arith}
 use Rattle.reply.specs.Lines.{refusedWord, wordLine}
-use Rattle.reply.proofs.Putting.{put-text, number-most}
+use Rattle.basics.proofs.Puts.{put-text}
+use Rattle.refusals.proofs.Refusals.{number-below}
 use borrow.Author.Needs.{needs}
 use Rattle.reply.proofs.put_refused.Statement.{statement}
 use Rattle.reply.proofs.put_refused.Tie as tie
@@ -20,7 +21,7 @@ put-word-requires : tie.Need-put-word-requires
 put-word-requires c κs =
     record {
       short = omega arith;
-      small = omega (arith, c .wide .ensures, c .before .number .ensures, number-most (c .before .before .before .before .before .args .refusal));
+      small = omega (arith, c .wide .ensures, c .before .number .ensures, number-below (c .before .before .before .before .before .args .refusal));
       fits = omega (arith, c .before .before .before .before .before .pre .fits);
     }
 

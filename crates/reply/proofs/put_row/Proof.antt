@@ -3,7 +3,8 @@ use mathlib.Core.Path.{ap}
 use native.Mathlib.Omega.{arith}
 use lib.ListN.{length-set}
 use Rattle.reply.specs.Lines.{decimal, rowLine}
-use Rattle.reply.proofs.Putting.{put-one, put-both, put-text, put-length, number-ends}
+use Rattle.basics.proofs.Puts.{put-one, put-then, put-text, put-length}
+use Rattle.reply.proofs.Putting.{number-ends}
 use borrow.Author.Needs.{needs}
 use Rattle.reply.proofs.put_row.Statement.{statement}
 use Rattle.reply.proofs.put_row.Tie as tie
@@ -36,8 +37,8 @@ add-result c =
 returns : tie.Need-returns
 unfolding rowLine
 returns c =
-    put-both
-    (put-both (put-both (c .before .before .before .before .before .before .before .put-number .ensures) (put-one _ _ 32)) (put-text (ap decimal (c .before .before .before .wide .ensures)) (c .before .before .put-number2 .ensures)))
+    put-then
+    (put-then (put-then (c .before .before .before .before .before .before .before .put-number .ensures) (put-one _ _ 32)) (put-text (ap decimal (c .before .before .before .wide .ensures)) (c .before .before .put-number2 .ensures)))
     (put-one _ _ 10)
 
 same-length : tie.Need-same-length

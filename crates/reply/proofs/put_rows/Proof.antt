@@ -4,17 +4,17 @@ use mathlib.Core.Path.{ap}
 use native.Mathlib.Omega.{arith}
 use lib.ListN.{length, take}
 use lib.Seq.{take-all}
-use Rattle.labels.specs.Labels.{at}
+use Rattle.basics.specs.Lists.{at, Put}
 use Rattle.reply.specs.Lines.{rowLines}
-use Rattle.reply.specs.Put.{Put}
-use Rattle.reply.proofs.Putting.{put-none, put-text, put-length, put-row-more, row-length}
+use Rattle.basics.proofs.Puts.{put-none, put-text, put-length}
+use Rattle.reply.proofs.Putting.{put-row-more, row-length}
 use borrow.Author.Needs.{needs}
 use Rattle.reply.proofs.put_rows.Statement.{statement}
 use Rattle.reply.proofs.put_rows.Tie as tie
 
 abbrev Inv-loop : tie.InvT-loop
 Inv-loop out₀ place labels at₀ row₀ out place′ row =
-    (row ≤ length labels) × Put out₀ out place (rowLines 0 (take row labels)) place′ × (place′ + 6 * (length labels - row) ≤ length out₀)
+    (row ≤ length labels) × Put out₀ place (rowLines 0 (take row labels)) out place′ × (place′ + 6 * (length labels - row) ≤ length out₀)
 
 abbrev μ-loop : tie.MeasureT-loop
 μ-loop out₀ place labels at₀ row₀ out place′ row = length labels - row
@@ -50,7 +50,7 @@ loop-again c =
     let e = c .before .before .put-row .ensures in (
       omega arith,
       put-row-more a (l .row) (l .inv .1) (c .before .before .before .before .before .loop-test .taken) e,
-      omega (arith, l .inv .2, e .next-is, row-length (l .row) (at a (l .row)) (omega (arith, p .each .few)) (p .each .small (l .row) (c .before .before .before .before .before .loop-test .taken))),
+      omega (arith, l .inv .2, e .ends, row-length (l .row) (at a (l .row)) (omega (arith, p .each .few)) (p .each .small (l .row) (c .before .before .before .before .before .loop-test .taken))),
     )
 
 same-length : tie.Need-same-length Inv-loop μ-loop

@@ -1,7 +1,7 @@
 -- `reply::reply` meets its contract: each way through the tests of the lengths is a way to compute `replied`.
 use mathlib.Core.Path.{refl, _∙_}
 use native.Mathlib.Omega.{arith}
-use Rattle.table.specs.declared.Refusal.the-variants.{Form}
+use Rattle.refusals.specs.declared.Refusal.the-variants.{Form}
 use Rattle.reply.specs.Replied.{places}
 use Rattle.reply.proofs.Replying.{refusal-replied, out-short, tape-long, tape-read, replied-within}
 use borrow.Author.Needs.{needs}

@@ -5,8 +5,8 @@ use lib.ListN.{length}
 use Rattle.table.specs.Tables.{table}
 use Rattle.table.specs.Planned.{planned, spaceAfter}
 use Rattle.reply.specs.Lines.{printed}
-use Rattle.reply.specs.Put.{Answerable}
-use Rattle.reply.proofs.Putting.{put-text}
+use Rattle.reply.specs.Room.{Answerable}
+use Rattle.basics.proofs.Puts.{put-text}
 use Rattle.reply.proofs.Replying.{planned-answerable, answer-is, answer-replied}
 use borrow.Author.Needs.{needs}
 use Rattle.reply.proofs.reply_table.Statement.{statement}

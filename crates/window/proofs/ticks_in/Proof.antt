@@ -2,7 +2,6 @@
 use Rattle.window.specs.declared.Kind.the-variants.{Round, Run}
 use Rattle.window.specs.Windows.{Window, ticksIn}
 use native.Mathlib.Omega.{arith}
-use mathlib.Core.Path.{_≡_, _∙_, sym}
 use borrow.Author.Needs.{needs}
 use Rattle.window.proofs.ticks_in.Statement.{statement}
 use Rattle.window.proofs.ticks_in.Tie as tie

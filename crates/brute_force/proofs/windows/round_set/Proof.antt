@@ -2,7 +2,6 @@
 use Prim.Native.Nat.{_-_}
 -- `brute_force::windows::round_set` is safe and ends: fewer steps are left at each turn.
 use native.Mathlib.Omega.{arith}
-use Prim.Native.Nat.{_-_}
 use Rattle.brute_force.proofs.windows.round_set.Statement.{statement}
 use Rattle.brute_force.proofs.windows.round_set.Tie as tie
 

@@ -1,7 +1,7 @@
 -- `table::checks::check_hours` meets its contract.
 use Rattle.table.specs.Checks.{hoursRefusal}
 use borrow.Author.Tests.{not-true, not-false}
-use mathlib.Core.Path.{_≡_, _∙_, sym}
+use mathlib.Core.Path.{sym}
 use borrow.Author.Needs.{needs}
 use Rattle.table.proofs.checks.check_hours.Statement.{statement}
 use Rattle.table.proofs.checks.check_hours.Tie as tie

@@ -1,6 +1,6 @@
 -- `table::checks::check_rows` meets its contract: while it goes on, the rows from i on are still to be looked at.
 use Rattle.table.proofs.Looking.{Ahead, uneven-ends, uneven-marks, ahead-all, ahead-refused, ahead-more, ahead-done}
-use Rattle.table.specs.Refusals.{numberOf}
+use Rattle.refusals.specs.Refusals.{numberOf}
 use lib.ListN.{length}
 use borrow.Author.Needs.{needs}
 use native.Mathlib.Omega.{arith}

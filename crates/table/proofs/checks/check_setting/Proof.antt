@@ -1,7 +1,7 @@
 -- `table::checks::check_setting` meets its contract.
 use Rattle.table.specs.Checks.{settingRefusal}
 use borrow.Author.Tests.{eq-eqb, ne-eqb}
-use mathlib.Core.Path.{sym, _∙_}
+use mathlib.Core.Path.{sym}
 use borrow.Author.Needs.{needs}
 use Rattle.table.proofs.checks.check_setting.Statement.{statement}
 use Rattle.table.proofs.checks.check_setting.Tie as tie

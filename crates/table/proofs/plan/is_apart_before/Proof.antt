@@ -1,7 +1,7 @@
 -- `table::plan::is_apart_before` meets its contract: the rows passed are apart from row i.
-use Rattle.table.proofs.Testing.{every-more, every-fails}
+use Rattle.basics.proofs.Tests.{every-more, every-fails}
 use Rattle.table.specs.Tables.{isApart}
-use Rattle.labels.specs.Labels.{every}
+use Rattle.basics.specs.Tests.{every}
 use borrow.Author.Tests.{not-true, not-false}
 use native.Mathlib.Omega.{arith}
 use mathlib.Core.Bool.{true}

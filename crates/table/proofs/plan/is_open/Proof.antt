@@ -1,6 +1,5 @@
 -- `table::plan::is_open` meets its contract.
 use Rattle.table.proofs.Testing.{open-within, open-outside}
-use mathlib.Core.Path.{_∙_, ap, sym}
 use native.Mathlib.Omega.{arith}
 use borrow.Author.Needs.{needs}
 use Rattle.table.proofs.plan.is_open.Statement.{statement}

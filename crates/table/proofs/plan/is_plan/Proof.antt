@@ -1,7 +1,8 @@
 -- `table::plan::is_plan` meets its contract: the rows passed fit.
-use Rattle.table.proofs.Testing.{every-more, not-even-ends, not-even-marks, not-even-labels, even-plan, not-allowed, not-apart, fit-row}
+use Rattle.basics.proofs.Tests.{every-more}
+use Rattle.table.proofs.Testing.{not-even-ends, not-even-marks, not-even-labels, even-plan, not-allowed, not-apart, fit-row}
 use Rattle.table.specs.Tables.{table, isFit}
-use Rattle.labels.specs.Labels.{every}
+use Rattle.basics.specs.Tests.{every}
 use lib.ListN.{length}
 use borrow.Author.Tests.{not-true, not-false}
 use borrow.Author.Needs.{needs}

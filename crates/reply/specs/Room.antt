@@ -1,19 +1,13 @@
--- Bytes put into the output at a place: what the inner functions ask and promise.
+-- What the inner functions ask: room in the output, and numbers of at most two digits.
 use Prim.Native.Nat.{ℕ, _+_, _*_, _≤_, _<_}
 use mathlib.Core.Path.{_≡_}
 use mathlib.Core.List.{List}
 use lib.ListN.{length}
-use lib.Seq.{sets}
-use Rattle.labels.specs.Labels.{at}
-use Rattle.table.specs.declared.Answer.{Answer}
-use Rattle.table.specs.Refusals.{numberOf}
+use Rattle.basics.specs.Lists.{at}
+use Rattle.refusals.specs.declared.Answer.{Answer}
+use Rattle.refusals.specs.Refusals.{numberOf}
 use Rattle.table.specs.Planned.{Planned}
 use Rattle.reply.specs.Replied.{places}
-
--- the text was put there, and `next` is the place after it
-pub record Put (before after : List ℕ) (place : ℕ) (text : List ℕ) (next : ℕ) : Type 0 where
-  pub next-is : next ≡ place + length text
-  pub bytes : after ≡ sets before place text
 
 -- so many bytes fit from a place on
 pub record Room (out : List ℕ) (place bytes : ℕ) : Type 0 where

@@ -1,13 +1,14 @@
 -- Bool tests and what they say: a test written clause for clause like a statement is true exactly if the statement holds.
-use Prim.Native.Nat.{ℕ, zero, suc, _≤_, _<_}
-use mathlib.Core.Path.{_≡_, refl, ap₂}
+use Prim.Native.Nat.{ℕ, zero, suc, _+_, _≤_, _<_}
+use mathlib.Core.Path.{_≡_, refl, sym, ap₂}
 use mathlib.Core.Logic.{_↔_, _⊎_, inl, inr, ⊎-elim, Iff·trans}
-use mathlib.Core.Bool.{Bool, true, false, not, _&&_, _||_, and-eq-true-iff, false≢true}
+use mathlib.Core.Bool.{Bool, true, false, cond, not, _&&_, _||_, and-false, and-eq-true-iff, false≢true}
 use native.Mathlib.Omega.{arith}
+use native.Mathlib.Numerals.{add-one}
 use native.Mathlib.Nat.{eq-or-lt-of-le, le-of-suc-le-suc}
 use lib.Dec.{leb, ltb, eqb}
 use borrow.Author.Tests.{leb-true, leb-false, le-leb, ltb-true, lt-ltb, eqb-true, eq-eqb}
-use Rattle.labels.specs.Labels.{_⇒_, every}
+use Rattle.basics.specs.Tests.{_⇒_, every}
 
 -- what a test a ≤ b told
 pub data Test (a b : ℕ) : Bool → Type 0 where
@@ -20,6 +21,13 @@ test a b = go (leb a b) refl
     go : (t : Bool) → leb a b ≡ t → Test a b t
     go true e = pass (leb-true a b e)
     go false e = fail (leb-false a b e)
+
+pub le-or-lt : (a b : ℕ) → (a ≤ b) ⊎ (b < a)
+le-or-lt a b = go (test a b)
+  where
+    go : {t : Bool} → Test a b t → (a ≤ b) ⊎ (b < a)
+    go (pass h) = inl h
+    go (fail h) = inr h
 
 pub leb-iff : (a b : ℕ) → (leb a b ≡ true) ↔ (a ≤ b)
 leb-iff a b = (leb-true a b, le-leb a b)
@@ -66,3 +74,22 @@ pub every-same : (n : ℕ) {p q : ℕ → Bool} → ((i : ℕ) → i < n → p i
 unfolding every
 every-same zero f = refl
 every-same (suc n) f = ap₂ _&&_ (f n (omega arith)) (every-same n (λ i h. f i (omega arith)))
+
+-- one number more, from 0 on
+pub every-more : (p : ℕ → Bool) (i : ℕ) → every i p ≡ true → p i ≡ true → every (i + 1) p ≡ true
+unfolding every
+every-more p i e q = rw (add-one i, q) e
+
+pub every-fails : (p : ℕ → Bool) (i n : ℕ) → i < n → p i ≡ false → false ≡ every n p
+unfolding every
+every-fails p i zero h e = absurd (omega arith)
+every-fails p i (suc n) h e = ⊎-elim
+    (λ q. rw (← q, e) refl)
+    (λ l. rw (← every-fails p i n l e) (sym (and-false (p n))))
+    (eq-or-lt-of-le (le-of-suc-le-suc h))
+
+-- ---- numbers that a test picks
+
+pub cond-le : (b : Bool) {x n : ℕ} → x ≤ n → cond b x 0 ≤ n
+cond-le true h = h
+cond-le false h = omega arith

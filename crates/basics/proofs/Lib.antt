@@ -1,0 +1,6 @@
+-- Laws of tests and of lists of numbers.
+pub mod Tests
+pub mod Lists
+pub mod Filling
+pub mod Puts
+pub mod Swaps

@@ -1,0 +1,2 @@
+-- What the contracts of the crate `refusals` cite.
+pub mod Refusals
