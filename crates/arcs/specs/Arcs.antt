@@ -5,6 +5,7 @@ use mathlib.Core.Bool.{Bool, true, _||_}
 use mathlib.Core.List.{List}
 use lib.Dec.{ltb}
 use lib.ListN.{length}
+use Rattle.basics.specs.Limits.{maxRows}
 use Rattle.basics.specs.Lists.{at}
 use Rattle.labels.specs.Labels.{Assignment}
 use Rattle.labels.specs.Permission.{permits}
@@ -30,7 +31,7 @@ meets C s n s′ n′ = ltb (distance C s s′) n || ltb (distance C s′ s) n�
 -- rows that tracks can be assigned to: at most 64 arcs of a circle of C ticks, each of at least one tick and at most the whole circle
 pub record Arcs (C : ℕ) (starts lengths : List ℕ) : Type 0 where
   pub some : 1 ≤ C
-  pub few : length starts ≤ 64
+  pub few : length starts ≤ maxRows
   pub each : length lengths ≡ length starts
   pub start : (i : ℕ) → i < length starts → at starts i < C
   pub proper : (i : ℕ) → i < length starts → 1 ≤ at lengths i

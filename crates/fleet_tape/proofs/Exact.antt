@@ -13,7 +13,9 @@ use lib.Seq.{take-at}
 use Rattle.window.specs.declared.Kind.{Kind}
 use Rattle.refusals.specs.declared.Refusal.the-variants.{Accepted, Lists, Rows, Form}
 use Rattle.refusals.specs.Refusals.{numberOf}
-use Rattle.fleet_tape.specs.Fleet.{Row, fleetTape, Bytes, Fits, startsOf, endsOf, marksOf, rowsOfLists, firstRows}
+use Rattle.window.specs.declared.Row.{Row}
+use Rattle.fleet_tape.specs.Fleet.{fleetTape, Bytes, Fits, rowsOfLists, firstRows}
+use Rattle.window.specs.Rows.{startsOf, endsOf, marksOf}
 use Rattle.fleet_tape.specs.Form.{Fleet, fleet, hoursIn, fleetOf}
 use Rattle.fleet_tape.specs.Scan.{Places}
 use Rattle.fleet_tape.specs.Reading.{Reading, reading, refused, taken, judged, hasPlaces, fleetRead}
@@ -63,11 +65,11 @@ first-rows : (rows : List Row) (starts ends marks : List ℕ)
 first-rows rows starts ends marks =
     rw (taken-front (λ row. row .start) rows starts, taken-front (λ row. row .end) rows ends, taken-front (λ row. row .mark) rows marks) (rows-again rows)
 
--- the rows that a call reports and has front in
+-- the rows that a call reports and has filled in
 abbrev pub rowsGiven : Reading → List Row
 rowsGiven out = firstRows (out .report .rows) (out .starts) (out .ends) (out .marks)
 
--- The tape is the fleet tape of what was reported and front in.
+-- The tape is the fleet tape of what was reported and filled in.
 pub record Stated (tape : List ℕ) (out : Reading) : Type 0 where
   pub tape-is : tape ≡ fleetTape (out .report .kind) (out .report .ticks) (out .report .hours) (rowsGiven out)
   pub fits : Fits (out .report .ticks) (out .report .hours) (rowsGiven out)
@@ -103,7 +105,7 @@ module _ (tape starts ends marks : List ℕ) (b : Bytes tape) where
   placed-stated true a = judged-stated (fleetOf tape) (fleet-known tape b) a
   placed-stated false a = let z : _≡_ {A = ℕ} 1 0 = ap numberOf a in absurd (omega arith)
 
-  -- A tape that is accepted is the fleet tape of what was reported and front in.
+  -- A tape that is accepted is the fleet tape of what was reported and filled in.
   pub accepted-only : fleetRead tape starts ends marks .report .refusal ≡ Accepted → Stated tape (fleetRead tape starts ends marks)
   unfolding fleetRead
   accepted-only = placed-stated (hasPlaces (length starts) (length ends) (length marks))

@@ -15,8 +15,9 @@ use Rattle.refusals.specs.declared.Refusal.the-variants.{Accepted, Lists, Rows,
 use Rattle.tape.specs.Commands.{ROUND, RUN, HOURS, operandBytes}
 use Rattle.fleet_tape.specs.declared.Report.{Report}
 use Rattle.fleet_tape.specs.declared.Scanned.the-variants.{Count, Broken}
-use Rattle.fleet_tape.specs.Fleet.{Row, startsOf, endsOf, marksOf}
-use Rattle.fleet_tape.specs.Form.{begins, wordAt, hoursOf, rowsOf, stated, fleetOf}
+use Rattle.window.specs.declared.Row.{Row}
+use Rattle.window.specs.Rows.{startsOf, endsOf, marksOf}
+use Rattle.fleet_tape.specs.Form.{begins, wordAt, hoursOf, rowsIn, stated, fleetOf}
 use Rattle.window.specs.Hours.{noHours}
 use Rattle.fleet_tape.specs.Scan.{counted, listed, Places}
 use Rattle.fleet_tape.specs.Reading.{Reading, reading, refused, taken, judged, hasPlaces, fleetRead}
@@ -77,7 +78,7 @@ module _ (tape starts ends marks : List ℕ) where
     read-placed o e = rw (p, e)
 
     pub read-round : (R width : ℕ) → begins ROUND tape ≡ true → R ≡ wordAt tape 1 → width ≡ operandBytes ROUND
-        → call ≡ judged (stated Round R noHours (rowsOf (drop (1 + width) tape))) starts ends marks
+        → call ≡ judged (stated Round R noHours (rowsIn (drop (1 + width) tape))) starts ends marks
     unfolding fleetOf operandBytes
     read-round R width b r w = rw (r, w) (read-placed _ (rw b))
 
@@ -93,6 +94,6 @@ module _ (tape starts ends marks : List ℕ) where
 
         pub read-run : begins HOURS (drop (1 + width) tape) ≡ true → (R : ℕ) (hours : List (List ℕ)) (width′ : ℕ)
             → R ≡ wordAt tape 1 → hours ≡ hoursOf (drop (1 + width) tape) → width′ ≡ operandBytes HOURS
-            → call ≡ judged (stated Run R hours (rowsOf (drop (1 + width + 1 + width′) tape))) starts ends marks
+            → call ≡ judged (stated Run R hours (rowsIn (drop (1 + width + 1 + width′) tape))) starts ends marks
         unfolding fleetOf operandBytes
         read-run h R hours width′ r g v = rw (v, g, r, w) (read-placed _ (rw (n, b, rw w at h, drop-drop 9 3 tape)))

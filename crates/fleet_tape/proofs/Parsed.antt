@@ -16,9 +16,10 @@ use Rattle.window.specs.declared.Kind.the-variants.{Round, Run}
 use Rattle.tape.specs.Commands.{ROUND, RUN, WINDOW, MUST, HOURS, STOP, operandBytes}
 use Rattle.tape.specs.Words.{joined, highByte, lowByte}
 use Rattle.tape.proofs.Joined.{joined-word}
-use Rattle.fleet_tape.specs.Fleet.{Row, rowCommand, rowsTape, hoursTape, fleetTape, Bytes, RowsFit, HoursFit, Fits}
+use Rattle.window.specs.declared.Row.{Row}
+use Rattle.fleet_tape.specs.Fleet.{rowCommand, rowsTape, hoursTape, fleetTape, Bytes, RowsFit, HoursFit, Fits}
 use Rattle.window.specs.Hours.{hoursFrom, noHours}
-use Rattle.fleet_tape.specs.Form.{isRow, markOf, put, rowsOf, Fleet, fleet, stated, begins, wordAt, hoursOf, hoursIn, fleetOf}
+use Rattle.fleet_tape.specs.Form.{isRow, markOf, put, rowsIn, Fleet, fleet, stated, begins, wordAt, hoursOf, hoursIn, fleetOf}
 use Rattle.fleet_tape.proofs.Heads.{begins-iff}
 
 -- ---- from what is stated to the tape and back
@@ -34,10 +35,10 @@ module _ (row : Row) (o : Option (List Row)) where
       marked (suc zero) h = refl
       marked (suc (suc m)) h = absurd (omega arith)
 
-rows-back : (rows : List Row) → RowsFit rows → rowsOf (rowsTape rows ++ (STOP ∷ [])) ≡ some rows
-unfolding rowsOf rowsTape
+rows-back : (rows : List Row) → RowsFit rows → rowsIn (rowsTape rows ++ (STOP ∷ [])) ≡ some rows
+unfolding rowsIn rowsTape
 rows-back [] f = refl
-rows-back (row ∷ rows) f = row-back row (rowsOf (rowsTape rows ++ (STOP ∷ []))) (f .0 .mark-1) ∙ ap (put row) (rows-back rows (f .1))
+rows-back (row ∷ rows) f = row-back row (rowsIn (rowsTape rows ++ (STOP ∷ []))) (f .0 .mark-1) ∙ ap (put row) (rows-back rows (f .1))
 
 not-round : (s : List ℕ) → getD s 0 0 ≡ RUN → begins ROUND s ≡ false
 unfolding begins
@@ -112,14 +113,14 @@ unfolding rowsTape
 last-byte x true e = record { bytes = ap (λ (b : ℕ). b ∷ []) (eqb-iff x STOP .0 e); fit = tt }
 last-byte x false e = tt
 
-rows-known : (s : List ℕ) → Bytes s → RowsKnown s (rowsOf s)
-unfolding rowsOf
+rows-known : (s : List ℕ) → Bytes s → RowsKnown s (rowsIn s)
+unfolding rowsIn
 rows-known [] h = tt
 rows-known (x ∷ []) h = last-byte x (eqb x STOP) refl
 rows-known (x ∷ a ∷ []) h = tt
 rows-known (x ∷ a ∷ b ∷ []) h = tt
 rows-known (x ∷ a ∷ b ∷ c ∷ []) h = tt
-rows-known (x ∷ a ∷ b ∷ c ∷ d ∷ rest) h = one-row x a b c d rest h (isRow x) refl (rowsOf rest) (rows-known rest (λ i. h (suc (suc (suc (suc (suc i)))))))
+rows-known (x ∷ a ∷ b ∷ c ∷ d ∷ rest) h = one-row x a b c d rest h (isRow x) refl (rowsIn rest) (rows-known rest (λ i. h (suc (suc (suc (suc (suc i)))))))
 
 -- n bytes from place i on
 abbrev bytesFrom : ℕ → ℕ → List ℕ → List ℕ
@@ -192,11 +193,11 @@ module _ (s : List ℕ) (h : Bytes s) where
       }
 
   head-known : (t : Bool) → begins ROUND s ≡ t → (u : Bool) → (begins RUN s && begins HOURS (drop 3 s)) ≡ u
-      → FleetKnown s (cond t (stated Round (wordAt s 1) noHours (rowsOf (drop 3 s))) (cond u (stated Run (wordAt s 1) (hoursOf (drop 3 s)) (rowsOf (drop 9 (drop 3 s)))) none))
-  head-known true e u g = round-known e (rowsOf (drop 3 s)) (rows-known (drop 3 s) (bytes-drop 3 s h))
+      → FleetKnown s (cond t (stated Round (wordAt s 1) noHours (rowsIn (drop 3 s))) (cond u (stated Run (wordAt s 1) (hoursOf (drop 3 s)) (rowsIn (drop 9 (drop 3 s)))) none))
+  head-known true e u g = round-known e (rowsIn (drop 3 s)) (rows-known (drop 3 s) (bytes-drop 3 s h))
   head-known false e true g =
       let b = and-iff (λ x. x, λ x. x) (λ x. x, λ x. x) .0 g in
-      run-known (b .0) (b .1) (rowsOf (drop 9 (drop 3 s))) (rows-known (drop 9 (drop 3 s)) (bytes-drop 9 (drop 3 s) (bytes-drop 3 s h)))
+      run-known (b .0) (b .1) (rowsIn (drop 9 (drop 3 s))) (rows-known (drop 9 (drop 3 s)) (bytes-drop 9 (drop 3 s) (bytes-drop 3 s h)))
   head-known false e false g = tt
 
   pub fleet-known : FleetKnown s (fleetOf s)

@@ -16,8 +16,8 @@ use Rattle.basics.proofs.Tests.{and-iff, or-iff, eqb-iff}
 use Rattle.tape.specs.Commands.{WINDOW, MUST, STOP, operandBytes}
 use Rattle.fleet_tape.specs.declared.Scanned.{Scanned}
 use Rattle.fleet_tape.specs.declared.Scanned.the-variants.{Count, Broken}
-use Rattle.fleet_tape.specs.Fleet.{Row}
-use Rattle.fleet_tape.specs.Form.{begins, wordAt, isRow, markOf, put, rowsOf}
+use Rattle.window.specs.declared.Row.{Row}
+use Rattle.fleet_tape.specs.Form.{begins, wordAt, isRow, markOf, put, rowsIn}
 use Rattle.fleet_tape.specs.Scan.{rowFirst, stopLast, counted, listed}
 use Rattle.basics.specs.Lists.{front}
 use Rattle.fleet_tape.proofs.Heads.{begins-iff, first-at, word-at}
@@ -38,8 +38,8 @@ row-first s e =
 abbrev firstRow : List ℕ → Row
 firstRow s = record { start = wordAt s 1; end = wordAt s 3; mark = markOf (getD s 0 0) }
 
-rows-more : (s : List ℕ) → RowFirst s → rowsOf s ≡ put (firstRow s) (rowsOf (drop 5 s))
-unfolding rowsOf
+rows-more : (s : List ℕ) → RowFirst s → rowsIn s ≡ put (firstRow s) (rowsIn (drop 5 s))
+unfolding rowsIn
 rows-more [] f = absurd (omega arith)
 rows-more (x ∷ []) f = absurd (omega arith)
 rows-more (x ∷ a ∷ []) f = absurd (omega arith)
@@ -47,11 +47,11 @@ rows-more (x ∷ a ∷ b ∷ []) f = absurd (omega arith)
 rows-more (x ∷ a ∷ b ∷ c ∷ []) f = absurd (omega arith)
 rows-more (x ∷ a ∷ b ∷ c ∷ d ∷ rest) f = rw (f .command)
 
-rows-stop : (s : List ℕ) → stopLast s ≡ true → rowsOf s ≡ some []
-unfolding rowsOf
+rows-stop : (s : List ℕ) → stopLast s ≡ true → rowsIn s ≡ some []
+unfolding rowsIn
 rows-stop s e = go s (and-iff (begins-iff STOP s) (eqb-iff (length s) 1) .0 e)
   where
-    go : (t : List ℕ) → ((operandBytes STOP < length t) × (getD t 0 0 ≡ STOP)) × (length t ≡ 1) → rowsOf t ≡ some []
+    go : (t : List ℕ) → ((operandBytes STOP < length t) × (getD t 0 0 ≡ STOP)) × (length t ≡ 1) → rowsIn t ≡ some []
     go [] h = absurd (omega arith)
     go (x ∷ []) h = rw (eq-eqb x STOP (h .0 .1))
     go (x ∷ a ∷ []) h = absurd (omega arith)
@@ -59,8 +59,8 @@ rows-stop s e = go s (and-iff (begins-iff STOP s) (eqb-iff (length s) 1) .0 e)
     go (x ∷ a ∷ b ∷ c ∷ []) h = absurd (omega arith)
     go (x ∷ a ∷ b ∷ c ∷ d ∷ rest) h = absurd (omega arith)
 
-rows-none : (s : List ℕ) → rowFirst s ≡ false → stopLast s ≡ false → rowsOf s ≡ none
-unfolding rowsOf begins operandBytes
+rows-none : (s : List ℕ) → rowFirst s ≡ false → stopLast s ≡ false → rowsIn s ≡ none
+unfolding rowsIn begins operandBytes
 rows-none [] f e = refl
 rows-none (x ∷ []) f e = rw (sym (and-true (eqb x STOP)) ∙ e)
 rows-none (x ∷ a ∷ []) f e = refl
@@ -78,7 +78,7 @@ rowAt s at = record { start = wordAt s (at + 1); end = wordAt s (at + 3); mark =
 pub record RowAt (s : List ℕ) (at : ℕ) : Type 0 where
   pub width : operandBytes (getD s at 0) ≡ 4
   pub whole : at + 4 < length s
-  pub more-rows : rowsOf (drop at s) ≡ put (rowAt s at) (rowsOf (drop (at + 5) s))
+  pub more-rows : rowsIn (drop at s) ≡ put (rowAt s at) (rowsIn (drop (at + 5) s))
 
 pub row-at : (s : List ℕ) (at : ℕ) → rowFirst (drop at s) ≡ true → RowAt s at
 row-at s at e =
@@ -108,14 +108,14 @@ pub count-none : (x : Scanned) → x ≡ more 0 x
 count-none (Count k) = ap Count (omega arith)
 count-none Broken = refl
 
-pub count-more : (s : List ℕ) (at n : ℕ) → RowAt s at → more n (counted (rowsOf (drop at s))) ≡ more (n + 1) (counted (rowsOf (drop (at + 5) s)))
-count-more s at n r = rw (r .more-rows, counted-put) (more-more n (counted (rowsOf (drop (at + 5) s))))
+pub count-more : (s : List ℕ) (at n : ℕ) → RowAt s at → more n (counted (rowsIn (drop at s))) ≡ more (n + 1) (counted (rowsIn (drop (at + 5) s)))
+count-more s at n r = rw (r .more-rows, counted-put) (more-more n (counted (rowsIn (drop (at + 5) s))))
 
 -- what is left where no row stands: STOP as the last byte, or a tape that is not of the form
-pub count-stop : (s : List ℕ) (n : ℕ) → stopLast s ≡ true → more n (counted (rowsOf s)) ≡ Count n
+pub count-stop : (s : List ℕ) (n : ℕ) → stopLast s ≡ true → more n (counted (rowsIn s)) ≡ Count n
 count-stop s n e = rw (rows-stop s e) (ap Count (omega arith))
 
-pub count-broken : (s : List ℕ) (n : ℕ) → rowFirst s ≡ false → stopLast s ≡ false → more n (counted (rowsOf s)) ≡ Broken
+pub count-broken : (s : List ℕ) (n : ℕ) → rowFirst s ≡ false → stopLast s ≡ false → more n (counted (rowsIn s)) ≡ Broken
 count-broken s n f e = rw (rows-none s f e) refl
 
 -- ---- filling
@@ -127,10 +127,10 @@ number Broken = 0
 -- A row stands at a place, and so many rows after it.
 pub record Next (s : List ℕ) (at left : ℕ) : Type 0 where
   pub row : RowAt s at
-  pub rest : counted (rowsOf (drop (at + 5) s)) ≡ Count left
-  pub rows : listed (rowsOf (drop at s)) ≡ rowAt s at ∷ listed (rowsOf (drop (at + 5) s))
+  pub rest : counted (rowsIn (drop (at + 5) s)) ≡ Count left
+  pub rows : listed (rowsIn (drop at s)) ≡ rowAt s at ∷ listed (rowsIn (drop (at + 5) s))
 
-not-last : (s : List ℕ) (left : ℕ) → counted (rowsOf s) ≡ Count (suc left) → rowFirst s ≡ true
+not-last : (s : List ℕ) (left : ℕ) → counted (rowsIn s) ≡ Count (suc left) → rowFirst s ≡ true
 not-last s left e = first (rowFirst s) refl
   where
     last : (b : Bool) → rowFirst s ≡ false → stopLast s ≡ b → rowFirst s ≡ true
@@ -145,10 +145,10 @@ one-less : (row : Row) (o : Option (List Row)) (left : ℕ) → counted (put row
 one-less row none left e = let z : 0 ≡ suc left = ap number e in absurd (omega arith)
 one-less row (some rows) left e = let z : suc (length rows) ≡ suc left = ap number e in (ap Count (omega arith), refl)
 
-pub next-row : (s : List ℕ) (at left : ℕ) → counted (rowsOf (drop at s)) ≡ Count (suc left) → Next s at left
+pub next-row : (s : List ℕ) (at left : ℕ) → counted (rowsIn (drop at s)) ≡ Count (suc left) → Next s at left
 next-row s at left e =
     let r = row-at s at (not-last (drop at s) left e) in
-    let l = one-less (rowAt s at) (rowsOf (drop (at + 5) s)) left (rw (r .more-rows) at e) in
+    let l = one-less (rowAt s at) (rowsIn (drop (at + 5) s)) left (rw (r .more-rows) at e) in
     record { row = r; rest = l .0; rows = ap listed (r .more-rows) ∙ l .1 }
 
 pub none-left : (o : Option (List Row)) → counted o ≡ Count 0 → listed o ≡ []
@@ -165,7 +165,7 @@ length-listed o n e = same o ∙ ap number e
 
 -- one place a row, from place i on
 pub fill-more : (f : Row → ℕ) {s : List ℕ} {at left : ℕ} → Next s at left → (l : List ℕ) (i : ℕ)
-    → sets l i (map f (listed (rowsOf (drop at s)))) ≡ sets (set l i (f (rowAt s at))) (i + 1) (map f (listed (rowsOf (drop (at + 5) s))))
+    → sets l i (map f (listed (rowsIn (drop at s)))) ≡ sets (set l i (f (rowAt s at))) (i + 1) (map f (listed (rowsIn (drop (at + 5) s))))
 fill-more f n l i = rw (n .rows, add-one i) refl
 
 pub fill-done : (f : Row → ℕ) (o : Option (List Row)) (l : List ℕ) (i : ℕ) → counted o ≡ Count 0 → sets l i (map f (listed o)) ≡ l

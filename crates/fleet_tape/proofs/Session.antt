@@ -5,12 +5,10 @@ use mathlib.Core.List.{List, [], _∷_, _++_}
 use lib.ListN.{replicate}
 use Rattle.window.specs.declared.Kind.the-variants.{Round, Run}
 use Rattle.refusals.specs.declared.Refusal.the-variants.{Accepted}
-use Rattle.fleet_tape.specs.Fleet.{Row, fleetTape}
+use Rattle.window.specs.Rows.{row}
+use Rattle.fleet_tape.specs.Fleet.{fleetTape}
 use Rattle.window.specs.Hours.{noHours}
 use Rattle.fleet_tape.specs.Reading.{reading, fleetRead}
-
-abbrev row : ℕ → ℕ → ℕ → Row
-row s e m = record { start = s; end = e; mark = m }
 
 -- "Input: `10 00 64 40 00 0A 00 1E 40 00 14 00 28 40 00 19 00 32 40 00 5A 00 0A 7F`"
 abbrev session : List ℕ

@@ -1,19 +1,15 @@
 -- What a fleet tape is (paper 01, "Tapes"): from kind, R, hours and rows to bytes.
 use Prim.Native.Nat.{ℕ, zero, suc, _≤_, _<_}
 use mathlib.Core.Path.{_≡_}
-use mathlib.Core.List.{List, [], _∷_, _++_, map}
+use mathlib.Core.List.{List, [], _∷_, _++_}
 use lib.ListN.{getD, take}
 use Rattle.window.specs.declared.Kind.{Kind}
 use Rattle.window.specs.declared.Kind.the-variants.{Round, Run}
+use Rattle.window.specs.declared.Row.{Row}
+use Rattle.window.specs.Rows.{row}
 use Rattle.window.specs.Hours.{hour, hoursFrom}
 use Rattle.tape.specs.Commands.{ROUND, RUN, WINDOW, MUST, HOURS, STOP}
 use Rattle.tape.specs.Words.{word}
-
--- "a start and an end (16-bit numbers) and a mark: 0 may be heard, 1 must be heard"
-pub record Row : Type 0 where
-  pub start : ℕ
-  pub end : ℕ
-  pub mark : ℕ
 
 -- "WINDOW gives mark 0, MUST 1"
 abbrev pub rowCommand : ℕ → ℕ
@@ -76,22 +72,13 @@ pub record Fits (R : ℕ) (hours : List (List ℕ)) (rows : List Row) : Type 0 w
   pub hours-fit : HoursFit hours
   pub rows-fit : RowsFit rows
 
--- ---- rows as they are lent: "three lists, starts, ends and marks"
-
-abbrev pub startsOf : List Row → List ℕ
-startsOf rows = map (λ row. row .start) rows
-
-abbrev pub endsOf : List Row → List ℕ
-endsOf rows = map (λ row. row .end) rows
-
-abbrev pub marksOf : List Row → List ℕ
-marksOf rows = map (λ row. row .mark) rows
+-- ---- rows as they are lent
 
 abbrev pub rowsOfLists : List ℕ → List ℕ → List ℕ → List Row
 rowsOfLists [] ends marks = []
 rowsOfLists (s ∷ starts) [] marks = []
 rowsOfLists (s ∷ starts) (e ∷ ends) [] = []
-rowsOfLists (s ∷ starts) (e ∷ ends) (m ∷ marks) = record { start = s; end = e; mark = m } ∷ rowsOfLists starts ends marks
+rowsOfLists (s ∷ starts) (e ∷ ends) (m ∷ marks) = row s e m ∷ rowsOfLists starts ends marks
 
 -- the first n rows that the lists hold
 abbrev pub firstRows : ℕ → List ℕ → List ℕ → List ℕ → List Row

@@ -7,10 +7,11 @@ use lib.Dec.{ltb, eqb}
 use lib.ListN.{length, getD, drop}
 use Rattle.window.specs.declared.Kind.{Kind}
 use Rattle.window.specs.declared.Kind.the-variants.{Round, Run}
+use Rattle.window.specs.Rows.{row}
 use Rattle.window.specs.Hours.{hoursFrom, noHours}
 use Rattle.tape.specs.Commands.{ROUND, RUN, WINDOW, MUST, HOURS, STOP, operandBytes}
 use Rattle.tape.specs.Words.{joined}
-use Rattle.fleet_tape.specs.Fleet.{Row}
+use Rattle.window.specs.declared.Row.{Row}
 
 -- ---- rows
 
@@ -27,14 +28,14 @@ abbrev pub put : Row → Option (List Row) → Option (List Row)
 put row = Option·map (λ rows. row ∷ rows)
 
 -- "WINDOW and MUST in row order; STOP as the last byte": a row is a command and four bytes, and what is left at the end is STOP alone
-unfoldable pub rowsOf : List ℕ → Option (List Row)
-rowsOf [] = none
-rowsOf (command ∷ []) = cond (eqb command STOP) (some []) none
-rowsOf (command ∷ a ∷ []) = none
-rowsOf (command ∷ a ∷ b ∷ []) = none
-rowsOf (command ∷ a ∷ b ∷ c ∷ []) = none
-rowsOf (command ∷ a ∷ b ∷ c ∷ d ∷ rest) =
-    cond (isRow command) (put (record { start = joined a b; end = joined c d; mark = markOf command }) (rowsOf rest)) none
+unfoldable pub rowsIn : List ℕ → Option (List Row)
+rowsIn [] = none
+rowsIn (command ∷ []) = cond (eqb command STOP) (some []) none
+rowsIn (command ∷ a ∷ []) = none
+rowsIn (command ∷ a ∷ b ∷ []) = none
+rowsIn (command ∷ a ∷ b ∷ c ∷ []) = none
+rowsIn (command ∷ a ∷ b ∷ c ∷ d ∷ rest) =
+    cond (isRow command) (put (row (joined a b) (joined c d) (markOf command)) (rowsIn rest)) none
 
 -- ---- the whole tape
 
@@ -76,9 +77,9 @@ hoursIn Run hours = hours
 
 -- "ROUND, or RUN and then HOURS", and then the rows
 unfoldable pub fleetOf : List ℕ → Option Fleet
-unfolding rowsOf begins operandBytes
+unfolding rowsIn begins operandBytes
 fleetOf s =
-    cond (begins ROUND s) (stated Round (wordAt s 1) noHours (rowsOf (after ROUND s)))
+    cond (begins ROUND s) (stated Round (wordAt s 1) noHours (rowsIn (after ROUND s)))
     (cond (begins RUN s && begins HOURS (after RUN s))
-    (stated Run (wordAt s 1) (hoursOf (after RUN s)) (rowsOf (after HOURS (after RUN s))))
+    (stated Run (wordAt s 1) (hoursOf (after RUN s)) (rowsIn (after HOURS (after RUN s))))
     none)

@@ -5,12 +5,13 @@ use mathlib.Core.List.{List}
 use mathlib.Core.Option.{Option, none, some}
 use lib.Dec.{leb, eqb}
 use lib.ListN.{length}
+use Rattle.basics.specs.Limits.{maxRows}
 use Rattle.basics.specs.Lists.{front}
 use Rattle.window.specs.declared.Kind.the-variants.{Round}
 use Rattle.refusals.specs.declared.Refusal.{Refusal}
 use Rattle.refusals.specs.declared.Refusal.the-variants.{Accepted, Lists, Rows, Form}
 use Rattle.fleet_tape.specs.declared.Report.{Report}
-use Rattle.fleet_tape.specs.Fleet.{startsOf, endsOf, marksOf}
+use Rattle.window.specs.Rows.{startsOf, endsOf, marksOf}
 use Rattle.fleet_tape.specs.Form.{Fleet, fleetOf}
 use Rattle.window.specs.Hours.{noHours}
 
@@ -52,11 +53,11 @@ unfoldable pub judged : Option Fleet → List ℕ → List ℕ → List ℕ → 
 unfolding taken
 judged none starts ends marks = reading (refused Form) starts ends marks
 judged (some fleet) starts ends marks =
-    cond (leb (length (fleet .rows)) 64) (taken fleet starts ends marks) (reading (refused Rows) starts ends marks)
+    cond (leb (length (fleet .rows)) maxRows) (taken fleet starts ends marks) (reading (refused Rows) starts ends marks)
 
 -- "1: .. for the fleet tape reader, a list has other than 64 places"
 abbrev pub hasPlaces : ℕ → ℕ → ℕ → Bool
-hasPlaces starts ends marks = eqb starts 64 && eqb ends 64 && eqb marks 64
+hasPlaces starts ends marks = eqb starts maxRows && eqb ends maxRows && eqb marks maxRows
 
 -- The reader's answer for a tape and three lists. "Reader's order: 1, 11, 2. The first that applies is reported .. Outputs .. are untouched."
 unfoldable pub fleetRead : List ℕ → List ℕ → List ℕ → List ℕ → Reading

@@ -6,11 +6,12 @@ use mathlib.Core.List.{List, []}
 use mathlib.Core.Option.{Option, none, some}
 use lib.Dec.{eqb}
 use lib.ListN.{length, drop}
+use Rattle.basics.specs.Limits.{maxRows}
 use Rattle.tape.specs.Commands.{WINDOW, MUST, STOP}
 use Rattle.fleet_tape.specs.declared.Scanned.{Scanned}
 use Rattle.fleet_tape.specs.declared.Scanned.the-variants.{Count, Broken}
-use Rattle.fleet_tape.specs.Fleet.{Row}
-use Rattle.fleet_tape.specs.Form.{begins, rowsOf}
+use Rattle.window.specs.declared.Row.{Row}
+use Rattle.fleet_tape.specs.Form.{begins, rowsIn}
 
 -- a row stands first
 abbrev pub rowFirst : List ℕ → Bool
@@ -35,12 +36,12 @@ pub record Inside (tape : List ℕ) (at : ℕ) : Type 0 where
 
 -- lists of 64 places
 pub record Places (starts ends marks : List ℕ) : Type 0 where
-  pub starts-64 : length starts ≡ 64
-  pub ends-64 : length ends ≡ 64
-  pub marks-64 : length marks ≡ 64
+  pub starts-64 : length starts ≡ maxRows
+  pub ends-64 : length ends ≡ maxRows
+  pub marks-64 : length marks ≡ maxRows
 
 -- so many rows stand at a place of the tape, and the lists have places for them
 pub record Fillable (tape : List ℕ) (from rows : ℕ) (starts ends marks : List ℕ) : Type 0 where
-  pub form : counted (rowsOf (drop from tape)) ≡ Count rows
-  pub few : rows ≤ 64
+  pub form : counted (rowsIn (drop from tape)) ≡ Count rows
+  pub few : rows ≤ maxRows
   pub places : Places starts ends marks

@@ -2,11 +2,12 @@
 ghost use mathlib.Core.Path.{_≡_};
 ghost use Prim.Native.Nat.{_+_};
 ghost use lib.ListN.{drop};
-ghost use Rattle.fleet_tape.specs.Fleet.{startsOf, endsOf, marksOf};
-ghost use Rattle.fleet_tape.specs.Form.{begins, wordAt, hoursOf, markOf, rowsOf, stated};
+ghost use Rattle.window.specs.Rows.{startsOf, endsOf, marksOf};
+ghost use Rattle.fleet_tape.specs.Form.{begins, wordAt, hoursOf, markOf, rowsIn, stated};
 ghost use Rattle.fleet_tape.specs.Scan.{rowFirst, stopLast, counted, listed, Inside, Places, Fillable};
 ghost use Rattle.fleet_tape.specs.Reading.{hasPlaces, refused, reading, judged, fleetRead};
 ghost use Rattle.basics.specs.Lists.{front};
+use basics::MAX_ROWS;
 use refusals::Refusal;
 use tape::HOURS;
 use tape::MUST;
@@ -64,13 +65,13 @@ fn refuse(refusal: Refusal) -> Report
 fn has_places(starts: usize, ends: usize, marks: usize) -> bool
     ensures { λ r. ⌜ r ≡ hasPlaces starts ends marks ⌝ }
 {
-    if starts != 64 {
+    if starts != MAX_ROWS {
         return false;
     }
-    if ends != 64 {
+    if ends != MAX_ROWS {
         return false;
     }
-    marks == 64
+    marks == MAX_ROWS
 }
 
 // Whether a command stands at a place, and all bytes of its operands follow.
@@ -108,7 +109,7 @@ fn is_stop_at(tape: &[u8], at: usize) -> bool
 
 // The rows from a place to the end of the tape, counted; nothing is written.
 fn count_rows(tape: &[u8], from: usize) -> Scanned
-    ensures { λ r. ⌜ r ≡ counted (rowsOf (drop from (now (tape .entry)))) ⌝ }
+    ensures { λ r. ⌜ r ≡ counted (rowsIn (drop from (now (tape .entry)))) ⌝ }
 {
     let mut at = from;
     let mut rows: usize = 0;
@@ -159,9 +160,9 @@ fn fill_rows(
     marks: &mut [u8],
 )
     requires { ⌜ Fillable (now tape) from rows (now starts) (now ends) (now marks) ⌝ }
-    ensures { λ r. ⌜ now (starts .exit) ≡ front (startsOf (listed (rowsOf (drop from (now (tape .entry)))))) (now (starts .entry)) ⌝ }
-    ensures { λ r. ⌜ now (ends .exit) ≡ front (endsOf (listed (rowsOf (drop from (now (tape .entry)))))) (now (ends .entry)) ⌝ }
-    ensures { λ r. ⌜ now (marks .exit) ≡ front (marksOf (listed (rowsOf (drop from (now (tape .entry)))))) (now (marks .entry)) ⌝ }
+    ensures { λ r. ⌜ now (starts .exit) ≡ front (startsOf (listed (rowsIn (drop from (now (tape .entry)))))) (now (starts .entry)) ⌝ }
+    ensures { λ r. ⌜ now (ends .exit) ≡ front (endsOf (listed (rowsIn (drop from (now (tape .entry)))))) (now (ends .entry)) ⌝ }
+    ensures { λ r. ⌜ now (marks .exit) ≡ front (marksOf (listed (rowsIn (drop from (now (tape .entry)))))) (now (marks .entry)) ⌝ }
 {
     let mut at = from;
     let mut row: usize = 0;
@@ -187,11 +188,11 @@ fn read_rows(
     marks: &mut [u8],
 ) -> Report
     requires { ⌜ Places (now starts) (now ends) (now marks) ⌝ }
-    ensures { λ r. ⌜ reading r (now (starts .exit)) (now (ends .exit)) (now (marks .exit)) ≡ judged (stated kind ticks hours (rowsOf (drop from (now (tape .entry))))) (now (starts .entry)) (now (ends .entry)) (now (marks .entry)) ⌝ }
+    ensures { λ r. ⌜ reading r (now (starts .exit)) (now (ends .exit)) (now (marks .exit)) ≡ judged (stated kind ticks hours (rowsIn (drop from (now (tape .entry))))) (now (starts .entry)) (now (ends .entry)) (now (marks .entry)) ⌝ }
 {
     match count_rows(tape, from) {
         Scanned::Count(rows) => {
-            if 64 < rows {
+            if MAX_ROWS < rows {
                 return refuse(Refusal::Rows);
             }
             fill_rows(tape, from, rows, starts, ends, marks);

@@ -1,10 +1,14 @@
 -- How an answer, a report and the receivers' open hours are handed over to C: by numbers alone.
 use mathlib.Core.Bool.{Bool, true, false}
-use mathlib.Core.List.{[]}
+use Prim.Native.Nat.{ℕ}
+use mathlib.Core.List.{List}
 use Rattle.window.specs.declared.Kind.{Kind}
 use Rattle.window.specs.declared.Kind.the-variants.{Round, Run}
 use Rattle.refusals.specs.declared.Answer.{Answer}
 use Rattle.refusals.specs.Refusals.{numberOf}
+use Rattle.table.specs.Planned.{PlanCalled}
+use Rattle.plan_tape.specs.Written.{Written}
+use Rattle.fleet_tape.specs.Reading.{Reading}
 use Rattle.window.specs.Hours.{hour}
 use Rattle.fleet_tape.specs.declared.Report.{Report}
 use Rattle.hub_c.specs.declared.HubAnswer.{HubAnswer}
@@ -31,3 +35,39 @@ handedReport report =
       q2 = hour (report .hours) 1 1;
       rows = report .rows;
     }
+
+-- what a call of the planner gives to C
+pub record HubPlanned : Type 0 where
+  pub answer : HubAnswer
+  pub labels : List ℕ
+  pub space : List ℕ
+
+abbrev pub planGave : HubAnswer → List ℕ → List ℕ → HubPlanned
+planGave answer labels space = record { answer = answer; labels = labels; space = space }
+
+abbrev pub handedPlan : PlanCalled → HubPlanned
+handedPlan p = planGave (handed (p .answer)) (p .labels) (p .space)
+
+-- and a call of the plan tape writer
+pub record HubWritten : Type 0 where
+  pub answer : HubAnswer
+  pub buffer : List ℕ
+
+abbrev pub tapeGave : HubAnswer → List ℕ → HubWritten
+tapeGave answer buffer = record { answer = answer; buffer = buffer }
+
+abbrev pub handedTape : Written → HubWritten
+handedTape w = tapeGave (handed (w .answer)) (w .buffer)
+
+-- and a call of the fleet tape reader
+pub record HubRead : Type 0 where
+  pub report : HubReport
+  pub starts : List ℕ
+  pub ends : List ℕ
+  pub marks : List ℕ
+
+abbrev pub readGave : HubReport → List ℕ → List ℕ → List ℕ → HubRead
+readGave report starts ends marks = record { report = report; starts = starts; ends = ends; marks = marks }
+
+abbrev pub handedRead : Reading → HubRead
+handedRead r = readGave (handedReport (r .report)) (r .starts) (r .ends) (r .marks)

@@ -1,17 +1,17 @@
 // The hub planner's functions for C and Rust. A round and a run have a function each, so that no bad kind can be passed. A slice is handed over as its address and
 // its length; lists that are lent to one call must not overlap each other. No function has a `requires`: each answers every input.
 ghost use mathlib.Core.Path.{_≡_};
-ghost use lib.ListN.{length};
 ghost use Rattle.window.specs.declared.Kind.the-variants.{Round, Run};
-ghost use Rattle.table.specs.Tables.{table};
-ghost use Rattle.table.specs.Planned.{planned, spaceAfter};
+ghost use Rattle.table.specs.Tables.{settingOf, table};
+ghost use Rattle.table.specs.Planned.{planCall};
 ghost use Rattle.plan_tape.specs.Written.{written};
 ghost use Rattle.fleet_tape.specs.Reading.{fleetRead};
 ghost use Rattle.reply.specs.Replied.{replying, replied};
-ghost use Rattle.hub_c.specs.Handed.{handed, handedReport, isRun};
+ghost use Rattle.hub_c.specs.Handed.{handed, isRun, handedReport, planGave, handedPlan, tapeGave, handedTape, readGave, handedRead};
 ghost use Rattle.window.specs.Hours.{hoursFrom, noHours};
 use fleet_tape::Report;
 use refusals::Answer;
+use table::Setting;
 use window::Kind;
 
 // What a call reports: the refusal's number in paper 01, 0 for accepted, and the count, 0 on a refusal.
@@ -45,22 +45,32 @@ fn hand_over(answer: Answer) -> HubAnswer
     }
 }
 
+// The setting of a round, in which hours are neither checked nor used.
+fn round_setting(ticks: u16) -> Setting
+    ensures { λ r. ⌜ r ≡ settingOf Round ticks noHours ⌝ }
+{
+    table::setting_of(Kind::Round, ticks, [[0, 0], [0, 0]])
+}
+
+// The setting of a run in which receiver 1 is open from p1 to q1 and receiver 2 from p2 to q2.
+fn run_setting(ticks: u16, p1: u16, q1: u16, p2: u16, q2: u16) -> Setting
+    ensures { λ r. ⌜ r ≡ settingOf Run ticks (hoursFrom p1 q1 p2 q2) ⌝ }
+{
+    table::setting_of(Kind::Run, ticks, [[p1, q1], [p2, q2]])
+}
+
 // Plans a round or a run.
 fn plan(
-    kind: Kind,
-    ticks: u16,
-    hours: [[u16; 2]; 2],
+    setting: Setting,
     starts: &[u16],
     ends: &[u16],
     marks: &[u8],
     labels: &mut [u8],
     space: &mut [u8],
 ) -> HubAnswer
-    ensures answer { λ r. ⌜ r ≡ handed (planned (table kind ticks hours (now (starts .entry)) (now (ends .entry)) (now (marks .entry))) (now (labels .entry)) (length (now (space .entry))) .answer) ⌝ }
-    ensures labels { λ r. ⌜ now (labels .exit) ≡ planned (table kind ticks hours (now (starts .entry)) (now (ends .entry)) (now (marks .entry))) (now (labels .entry)) (length (now (space .entry))) .labels ⌝ }
-    ensures space { λ r. ⌜ now (space .exit) ≡ spaceAfter (planned (table kind ticks hours (now (starts .entry)) (now (ends .entry)) (now (marks .entry))) (now (labels .entry)) (length (now (space .entry))) .answer .refusal) (now (space .entry)) ⌝ }
+    ensures { λ r. ⌜ planGave r (now (labels .exit)) (now (space .exit)) ≡ handedPlan (planCall (table setting (now (starts .entry)) (now (ends .entry)) (now (marks .entry))) (now (labels .entry)) (now (space .entry))) ⌝ }
 {
-    let answer = planner::plan(kind, ticks, hours, starts, ends, marks, labels, space);
+    let answer = planner::plan(setting, starts, ends, marks, labels, space);
     hand_over(answer)
 }
 
@@ -74,20 +84,10 @@ pub extern "C" fn hub_plan_round(
     labels: &mut [u8],
     space: &mut [u8],
 ) -> HubAnswer
-    ensures answer { λ r. ⌜ r ≡ handed (planned (table Round ticks noHours (now (starts .entry)) (now (ends .entry)) (now (marks .entry))) (now (labels .entry)) (length (now (space .entry))) .answer) ⌝ }
-    ensures labels { λ r. ⌜ now (labels .exit) ≡ planned (table Round ticks noHours (now (starts .entry)) (now (ends .entry)) (now (marks .entry))) (now (labels .entry)) (length (now (space .entry))) .labels ⌝ }
-    ensures space { λ r. ⌜ now (space .exit) ≡ spaceAfter (planned (table Round ticks noHours (now (starts .entry)) (now (ends .entry)) (now (marks .entry))) (now (labels .entry)) (length (now (space .entry))) .answer .refusal) (now (space .entry)) ⌝ }
+    ensures { λ r. ⌜ planGave r (now (labels .exit)) (now (space .exit)) ≡ handedPlan (planCall (table (settingOf Round ticks noHours) (now (starts .entry)) (now (ends .entry)) (now (marks .entry))) (now (labels .entry)) (now (space .entry))) ⌝ }
 {
-    plan(
-        Kind::Round,
-        ticks,
-        [[0, 0], [0, 0]],
-        starts,
-        ends,
-        marks,
-        labels,
-        space,
-    )
+    let setting = round_setting(ticks);
+    plan(setting, starts, ends, marks, labels, space)
 }
 
 // Plans a run in which receiver 1 is open from p1 to q1 and receiver 2 from p2 to q2.
@@ -104,37 +104,24 @@ pub extern "C" fn hub_plan_run(
     labels: &mut [u8],
     space: &mut [u8],
 ) -> HubAnswer
-    ensures answer { λ r. ⌜ r ≡ handed (planned (table Run ticks (hoursFrom p1 q1 p2 q2) (now (starts .entry)) (now (ends .entry)) (now (marks .entry))) (now (labels .entry)) (length (now (space .entry))) .answer) ⌝ }
-    ensures labels { λ r. ⌜ now (labels .exit) ≡ planned (table Run ticks (hoursFrom p1 q1 p2 q2) (now (starts .entry)) (now (ends .entry)) (now (marks .entry))) (now (labels .entry)) (length (now (space .entry))) .labels ⌝ }
-    ensures space { λ r. ⌜ now (space .exit) ≡ spaceAfter (planned (table Run ticks (hoursFrom p1 q1 p2 q2) (now (starts .entry)) (now (ends .entry)) (now (marks .entry))) (now (labels .entry)) (length (now (space .entry))) .answer .refusal) (now (space .entry)) ⌝ }
+    ensures { λ r. ⌜ planGave r (now (labels .exit)) (now (space .exit)) ≡ handedPlan (planCall (table (settingOf Run ticks (hoursFrom p1 q1 p2 q2)) (now (starts .entry)) (now (ends .entry)) (now (marks .entry))) (now (labels .entry)) (now (space .entry))) ⌝ }
 {
-    plan(
-        Kind::Run,
-        ticks,
-        [[p1, q1], [p2, q2]],
-        starts,
-        ends,
-        marks,
-        labels,
-        space,
-    )
+    let setting = run_setting(ticks, p1, q1, p2, q2);
+    plan(setting, starts, ends, marks, labels, space)
 }
 
 // Writes the plan tape of a round or a run and labels to the front of the buffer `tape`.
 fn write_plan(
-    kind: Kind,
-    ticks: u16,
-    hours: [[u16; 2]; 2],
+    setting: Setting,
     starts: &[u16],
     ends: &[u16],
     marks: &[u8],
     labels: &[u8],
     tape: &mut [u8],
 ) -> HubAnswer
-    ensures answer { λ r. ⌜ r ≡ handed (written (table kind ticks hours (now (starts .entry)) (now (ends .entry)) (now (marks .entry))) (now (labels .entry)) (now (tape .entry)) .answer) ⌝ }
-    ensures buffer { λ r. ⌜ now (tape .exit) ≡ written (table kind ticks hours (now (starts .entry)) (now (ends .entry)) (now (marks .entry))) (now (labels .entry)) (now (tape .entry)) .buffer ⌝ }
+    ensures { λ r. ⌜ tapeGave r (now (tape .exit)) ≡ handedTape (written (table setting (now (starts .entry)) (now (ends .entry)) (now (marks .entry))) (now (labels .entry)) (now (tape .entry))) ⌝ }
 {
-    let answer = plan_tape::write_plan(kind, ticks, hours, starts, ends, marks, labels, tape);
+    let answer = plan_tape::write_plan(setting, starts, ends, marks, labels, tape);
     hand_over(answer)
 }
 
@@ -148,19 +135,10 @@ pub extern "C" fn hub_write_plan_round(
     labels: &[u8],
     tape: &mut [u8],
 ) -> HubAnswer
-    ensures answer { λ r. ⌜ r ≡ handed (written (table Round ticks noHours (now (starts .entry)) (now (ends .entry)) (now (marks .entry))) (now (labels .entry)) (now (tape .entry)) .answer) ⌝ }
-    ensures buffer { λ r. ⌜ now (tape .exit) ≡ written (table Round ticks noHours (now (starts .entry)) (now (ends .entry)) (now (marks .entry))) (now (labels .entry)) (now (tape .entry)) .buffer ⌝ }
+    ensures { λ r. ⌜ tapeGave r (now (tape .exit)) ≡ handedTape (written (table (settingOf Round ticks noHours) (now (starts .entry)) (now (ends .entry)) (now (marks .entry))) (now (labels .entry)) (now (tape .entry))) ⌝ }
 {
-    write_plan(
-        Kind::Round,
-        ticks,
-        [[0, 0], [0, 0]],
-        starts,
-        ends,
-        marks,
-        labels,
-        tape,
-    )
+    let setting = round_setting(ticks);
+    write_plan(setting, starts, ends, marks, labels, tape)
 }
 
 // Writes the plan tape of a run, with the hours of its receivers, and labels to the front of the buffer `tape`; its count is the tape's length.
@@ -177,19 +155,10 @@ pub extern "C" fn hub_write_plan_run(
     labels: &[u8],
     tape: &mut [u8],
 ) -> HubAnswer
-    ensures answer { λ r. ⌜ r ≡ handed (written (table Run ticks (hoursFrom p1 q1 p2 q2) (now (starts .entry)) (now (ends .entry)) (now (marks .entry))) (now (labels .entry)) (now (tape .entry)) .answer) ⌝ }
-    ensures buffer { λ r. ⌜ now (tape .exit) ≡ written (table Run ticks (hoursFrom p1 q1 p2 q2) (now (starts .entry)) (now (ends .entry)) (now (marks .entry))) (now (labels .entry)) (now (tape .entry)) .buffer ⌝ }
+    ensures { λ r. ⌜ tapeGave r (now (tape .exit)) ≡ handedTape (written (table (settingOf Run ticks (hoursFrom p1 q1 p2 q2)) (now (starts .entry)) (now (ends .entry)) (now (marks .entry))) (now (labels .entry)) (now (tape .entry))) ⌝ }
 {
-    write_plan(
-        Kind::Run,
-        ticks,
-        [[p1, q1], [p2, q2]],
-        starts,
-        ends,
-        marks,
-        labels,
-        tape,
-    )
+    let setting = run_setting(ticks, p1, q1, p2, q2);
+    write_plan(setting, starts, ends, marks, labels, tape)
 }
 
 // Whether the kind is a run.
@@ -229,10 +198,7 @@ pub extern "C" fn hub_read_fleet(
     ends: &mut [u16],
     marks: &mut [u8],
 ) -> HubReport
-    ensures report { λ r. ⌜ r ≡ handedReport (fleetRead (now (tape .entry)) (now (starts .entry)) (now (ends .entry)) (now (marks .entry)) .report) ⌝ }
-    ensures starts { λ r. ⌜ now (starts .exit) ≡ fleetRead (now (tape .entry)) (now (starts .entry)) (now (ends .entry)) (now (marks .entry)) .starts ⌝ }
-    ensures ends { λ r. ⌜ now (ends .exit) ≡ fleetRead (now (tape .entry)) (now (starts .entry)) (now (ends .entry)) (now (marks .entry)) .ends ⌝ }
-    ensures marks { λ r. ⌜ now (marks .exit) ≡ fleetRead (now (tape .entry)) (now (starts .entry)) (now (ends .entry)) (now (marks .entry)) .marks ⌝ }
+    ensures { λ r. ⌜ readGave r (now (starts .exit)) (now (ends .exit)) (now (marks .exit)) ≡ handedRead (fleetRead (now (tape .entry)) (now (starts .entry)) (now (ends .entry)) (now (marks .entry))) ⌝ }
 {
     let report = fleet_tape::read_fleet(tape, starts, ends, marks);
     hand_over_report(report)

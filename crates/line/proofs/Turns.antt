@@ -12,7 +12,7 @@ use lib.ListN.{length, getD, drop, set, length-drop, drop-of-length-le, List·ge
 use lib.Seq.{getD-set-same, getD-set-other, drop-set-lt, getD-drop}
 use Rattle.basics.specs.Lists.{at}
 use Rattle.line.specs.Line.{row, rows, cell, best, Line}
-use Rattle.line.specs.Cells.{cellAt, endAt, lowAt, Lows}
+use Rattle.line.specs.Cells.{cellAt, endAt, lowAt, Lows, across, cellBytes, coreBytes}
 use Rattle.line.specs.Stage.{carry, carryAt, Live, Turn, LiveBelow, newCell, Small, RowMade, StageMade, startAt, Holds, LowsMade}
 use Rattle.line.proofs.Laws.{endAt-pos, Carried, over, live, carry-is, best-le, Same, best-same, drop-rows, length-rows, start-rows, rowAt}
 use Rattle.basics.proofs.Tests.{le-or-lt}
@@ -75,18 +75,18 @@ module _ {L : ℕ → Type 0} {N : ℕ → ℕ → ℕ} (k a : ℕ) (t : List �
 
   -- one cell more; those between it and the last one do not matter
   pub row-more : (m b : ℕ) (t′ : List ℕ) (v : ℕ) → RowMade L N k a m t t′ → b < m → ((y : ℕ) → b < y → y < m → L y → ⊥) → a ≤ k → b ≤ k
-      → k < 64 → 4225 ≤ length t′ → v ≡ N a b → RowMade L N k a b t (set t′ (a * 65 + b) v)
+      → k < 64 → cellBytes ≤ length t′ → v ≡ N a b → RowMade L N k a b t (set t′ (a * across + b) v)
   row-more m b t′ v r hb passed ha hk hl ht e =
       record {
         new = λ y u w l.
             ⊎-elim
-            (λ (q : b ≡ y). rw (← q) (getD-set-same t′ (a * 65 + b) v 0 (omega arith) ∙ e))
-            (λ (q : b < y). getD-set-other t′ (a * 65 + b) (a * 65 + y) v 0 (omega arith) ∙ ⊎-elim (λ z. r .new y z w l) (λ z. absurd (passed y q z l)) (le-or-lt m y))
+            (λ (q : b ≡ y). rw (← q) (getD-set-same t′ (a * across + b) v 0 (omega arith) ∙ e))
+            (λ (q : b < y). getD-set-other t′ (a * across + b) (a * across + y) v 0 (omega arith) ∙ ⊎-elim (λ z. r .new y z w l) (λ z. absurd (passed y q z l)) (le-or-lt m y))
             (eq-or-lt-of-le u);
         kept = λ j h.
-            getD-set-other t′ (a * 65 + b) j v 0 (λ q. h (omega arith) (omega arith))
+            getD-set-other t′ (a * across + b) j v 0 (λ q. h (omega arith) (omega arith))
             ∙ r .kept j (λ u w. h (omega arith) w);
-        rest = drop-set-lt 4225 t′ (a * 65 + b) v (omega arith) ∙ r .rest;
+        rest = drop-set-lt cellBytes t′ (a * across + b) v (omega arith) ∙ r .rest;
       }
 
 module _ {L : ℕ → Type 0} {N : ℕ → ℕ → ℕ} (es : List ℕ) (next k a m : ℕ) (t t′ : List ℕ) (r : RowMade L N k a m t t′)
@@ -121,7 +121,7 @@ module _ {L : ℕ → Type 0} {N : ℕ → ℕ → ℕ} (k : ℕ) (t : List ℕ)
             ⊎-elim
             (λ (e : a ≡ y). rw (← e) (r .new b (omega arith) z q ∙ same b z))
             (λ (e : a < y).
-            r .kept (y * 65 + b) (λ g h. omega arith)
+            r .kept (y * across + b) (λ g h. omega arith)
             ∙ ⊎-elim (λ g. s .new y b g w z l q) (λ g. absurd (passed y e g l)) (le-or-lt m y))
             (eq-or-lt-of-le u);
         kept = λ j h. r .kept j (λ u w. h (omega arith) (omega arith)) ∙ s .kept j (λ u w. h (omega arith) w);
@@ -132,7 +132,7 @@ module _ {L : ℕ → Type 0} {N : ℕ → ℕ → ℕ} (es : List ℕ) (next k 
     (hk : k < 64) (a : ℕ) (ha : a < m) (hm : m ≤ k + 1) where
   -- the cells that the cells of row a read are as they were, while the rows from m on are made
   stage-kept : (x y : ℕ) → x ≤ a → y ≤ k + 1 → cellAt t′ x y ≡ cellAt t x y
-  stage-kept x y hx hy = s .kept (x * 65 + y) (omega arith)
+  stage-kept x y hx hy = s .kept (x * across + y) (omega arith)
 
   stage-one : (b : ℕ) → b ≤ k → cellAt t′ (carryAt es next (k + 1)) (carryAt es next b) ≡ cellAt t (carryAt es next (k + 1)) (carryAt es next b)
   stage-one b hb =
@@ -156,22 +156,22 @@ module _ (ss es t : List ℕ) where
   pub lows-none : LowsMade ss es 0 t t
   lows-none = record { within = λ k h. absurd (omega arith); over = λ k i h. absurd (omega arith); rest = refl }
 
-  pub lows-more : (n v : ℕ) (t′ : List ℕ) → LowsMade ss es n t t′ → n < 64 → 4608 ≤ length t′ → v ≤ n
-      → ((i : ℕ) → i < v → at es i ≤ at ss n) → LowsMade ss es (n + 1) t (set t′ (4225 + n) v)
+  pub lows-more : (n v : ℕ) (t′ : List ℕ) → LowsMade ss es n t t′ → n < 64 → coreBytes ≤ length t′ → v ≤ n
+      → ((i : ℕ) → i < v → at es i ≤ at ss n) → LowsMade ss es (n + 1) t (set t′ (cellBytes + n) v)
   lows-more n v t′ m h hl hv o =
       record {
         within = below-more _ n (λ k u. rw (other k u) (m .within k u)) (rw same hv);
-        over = λ k i u. below-more (λ k. i < lowAt (set t′ (4225 + n) v) k → at es i ≤ at ss k) n (λ k u w. m .over k i u (rw (other k u) at w)) (λ w. o i (rw same at w)) k u;
-        rest = drop-set-lt 4608 t′ (4225 + n) v (omega arith) ∙ m .rest;
+        over = λ k i u. below-more (λ k. i < lowAt (set t′ (cellBytes + n) v) k → at es i ≤ at ss k) n (λ k u w. m .over k i u (rw (other k u) at w)) (λ w. o i (rw same at w)) k u;
+        rest = drop-set-lt coreBytes t′ (cellBytes + n) v (omega arith) ∙ m .rest;
       }
     where
-      same : lowAt (set t′ (4225 + n) v) n ≡ v
-      same = getD-set-same t′ (4225 + n) v 0 (omega arith)
+      same : lowAt (set t′ (cellBytes + n) v) n ≡ v
+      same = getD-set-same t′ (cellBytes + n) v 0 (omega arith)
 
-      other : (k : ℕ) → k < n → lowAt (set t′ (4225 + n) v) k ≡ lowAt t′ k
-      other k u = getD-set-other t′ (4225 + n) (4225 + k) v 0 (omega arith)
+      other : (k : ℕ) → k < n → lowAt (set t′ (cellBytes + n) v) k ≡ lowAt t′ k
+      other k u = getD-set-other t′ (cellBytes + n) (cellBytes + k) v 0 (omega arith)
 
-  pub lows-done : (n : ℕ) (t′ : List ℕ) → LowsMade ss es n t t′ → n ≡ length ss → 4608 ≤ length t′ → Lows ss es t′
+  pub lows-done : (n : ℕ) (t′ : List ℕ) → LowsMade ss es n t t′ → n ≡ length ss → coreBytes ≤ length t′ → Lows ss es t′
   lows-done n t′ m e h = record { long = h; within = λ k u. m .within k (omega arith); over = λ k i u. m .over k i (omega arith) }
 
 -- ---- all rows
@@ -242,9 +242,9 @@ module _ (ss es ps : List ℕ) (line : Line ss es ps) where
   holds-last k t e m = rw e at (m 0 0 (omega arith) (omega arith) (inl refl) (inl refl))
 
 -- the turn of row k, from the low rows as they were before any cell was made
-pub turn : (ss es ps t t′ : List ℕ) (k : ℕ) → Line ss es ps → Lows ss es t → drop 4225 t′ ≡ drop 4225 t → k < length ss → Turn es (at ss k) k (lowAt t′ k)
+pub turn : (ss es ps t t′ : List ℕ) (k : ℕ) → Line ss es ps → Lows ss es t → drop cellBytes t′ ≡ drop cellBytes t → k < length ss → Turn es (at ss k) k (lowAt t′ k)
 turn ss es ps t t′ k line lows e h =
     record { few = omega (arith, line .few); within = omega (arith, line .each-end); over = λ i u. lows .over k i h (rw same at u) }
   where
     same : lowAt t′ k ≡ lowAt t k
-    same = sym (getD-drop 4225 t′ k 0) ∙ ap (λ (l : List ℕ). getD l k 0) e ∙ getD-drop 4225 t k 0
+    same = sym (getD-drop cellBytes t′ k 0) ∙ ap (λ (l : List ℕ). getD l k 0) e ∙ getD-drop cellBytes t k 0

@@ -6,6 +6,7 @@ use mathlib.Core.Logic.{_⊎_}
 use Prim.Native.Nat.{ℕ, zero, suc, _≤_, _<_, max}
 use lib.Dec.{leb}
 use lib.ListN.{length}
+use Rattle.basics.specs.Limits.{maxRows}
 use Rattle.basics.specs.Lists.{at}
 use Rattle.labels.specs.Labels.{Assignment}
 use Rattle.labels.specs.Permission.{permits}
@@ -46,7 +47,7 @@ best (r ∷ rs) e1 e2 = cell (r .perm) (r .start) e1 e2 (best rs e1 e2) (best rs
 
 -- rows on a line: at most 64, in order of their starts, none empty
 pub record Line (starts ends perms : List ℕ) : Type 0 where
-  pub few : length starts ≤ 64
+  pub few : length starts ≤ maxRows
   pub each-end : length ends ≡ length starts
   pub each-perm : length perms ≡ length starts
   pub order : (i j : ℕ) → i < j → j < length starts → at starts i ≤ at starts j

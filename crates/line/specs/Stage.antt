@@ -6,9 +6,10 @@ use mathlib.Core.Logic.{_⊎_}
 use Prim.Native.Nat.{ℕ, _+_, _*_, _≤_, _<_}
 use lib.Dec.{leb}
 use lib.ListN.{length, getD, drop}
+use Rattle.basics.specs.Limits.{maxRows}
 use Rattle.basics.specs.Lists.{at}
 use Rattle.line.specs.Line.{cell, best, rows}
-use Rattle.line.specs.Cells.{cellAt, endAt}
+use Rattle.line.specs.Cells.{cellAt, endAt, across, cellBytes, coreBytes}
 
 -- a last row a, which ends at e, as a row that starts at `next` sees it: none, where it is over by then
 unfoldable pub carry : ℕ → ℕ → ℕ → ℕ
@@ -23,7 +24,7 @@ Live ends s a = (a ≡ 0) ⊎ (s < endAt ends a)
 
 -- The turn of row k, which starts at s: no row before `low` ends after s.
 pub record Turn (ends : List ℕ) (s k low : ℕ) : Type 0 where
-  pub few : k < 64
+  pub few : k < maxRows
   pub within : k < length ends
   pub over : (i : ℕ) → i < low → at ends i ≤ s
 
@@ -48,14 +49,14 @@ pub record Small (ends : List ℕ) (next k a : ℕ) (t : List ℕ) : Type 0 wher
 -- t′ is t with the cells (a, m) to (a, k) made new, where L says which of them matter and N what they are to be
 pub record RowMade (L : ℕ → Type 0) (N : ℕ → ℕ → ℕ) (k a m : ℕ) (t t′ : List ℕ) : Type 0 where
   pub new : (b : ℕ) → m ≤ b → b ≤ k → L b → cellAt t′ a b ≡ N a b
-  pub kept : (j : ℕ) → (a * 65 + m ≤ j → j ≤ a * 65 + k → ⊥) → getD t′ j 0 ≡ getD t j 0
-  pub rest : drop 4225 t′ ≡ drop 4225 t
+  pub kept : (j : ℕ) → (a * across + m ≤ j → j ≤ a * across + k → ⊥) → getD t′ j 0 ≡ getD t j 0
+  pub rest : drop cellBytes t′ ≡ drop cellBytes t
 
 -- the same of the rows m to k of cells
 pub record StageMade (L : ℕ → Type 0) (N : ℕ → ℕ → ℕ) (k m : ℕ) (t t′ : List ℕ) : Type 0 where
   pub new : (a b : ℕ) → m ≤ a → a ≤ k → b ≤ k → L a → L b → cellAt t′ a b ≡ N a b
-  pub kept : (j : ℕ) → (m * 65 ≤ j → j < (k + 1) * 65 → ⊥) → getD t′ j 0 ≡ getD t j 0
-  pub rest : drop 4225 t′ ≡ drop 4225 t
+  pub kept : (j : ℕ) → (m * across ≤ j → j < (k + 1) * across → ⊥) → getD t′ j 0 ≡ getD t j 0
+  pub rest : drop cellBytes t′ ≡ drop cellBytes t
 
 -- the start of row k; past the last row a tick at which every row is over
 abbrev pub startAt : List ℕ → ℕ → ℕ
@@ -68,6 +69,6 @@ Holds ss es ps k t =
 
 -- the low rows of the rows before n stand after the cells
 pub record LowsMade (starts ends : List ℕ) (n : ℕ) (t t′ : List ℕ) : Type 0 where
-  pub within : (k : ℕ) → k < n → getD t′ (4225 + k) 0 ≤ k
-  pub over : (k i : ℕ) → k < n → i < getD t′ (4225 + k) 0 → at ends i ≤ at starts k
-  pub rest : drop 4608 t′ ≡ drop 4608 t
+  pub within : (k : ℕ) → k < n → getD t′ (cellBytes + k) 0 ≤ k
+  pub over : (k i : ℕ) → k < n → i < getD t′ (cellBytes + k) 0 → at ends i ≤ at starts k
+  pub rest : drop coreBytes t′ ≡ drop coreBytes t

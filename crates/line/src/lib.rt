@@ -4,11 +4,18 @@ ghost use Prim.Native.Nat.{ℕ, _<_, _≤_};
 ghost use mathlib.Core.Bool.{_&&_};
 ghost use lib.Dec.{leb};
 ghost use lib.ListN.{length, drop};
+ghost use Rattle.basics.specs.Limits.{maxRows};
 ghost use Rattle.basics.specs.Lists.{at};
 ghost use Rattle.line.specs.Line.{when, gain, cell, best, rows, Line};
-ghost use Rattle.line.specs.Cells.{endAt, Lows};
+ghost use Rattle.line.specs.Cells.{endAt, Lows, cellBytes, coreBytes};
 ghost use Rattle.line.specs.Stage.{carryAt, Live, Turn, LiveBelow, newCell, Small, RowMade, StageMade};
 use labels::permission::may_have;
+
+// The cells of the working space stand in rows of 65: one for "none" and one for each row.
+const ACROSS: usize = 65;
+
+// The bytes of all cells.
+const CELL_BYTES: usize = 4225;
 
 // The value of leaving a row out, where it may be.
 fn out_value(may: bool, v: u8) -> u8
@@ -90,13 +97,13 @@ fn fill_row(
     a: usize,
     space: &mut [u8],
 )
-    requires { ⌜ Turn (now ends) start k low × (a ≤ k) × (4225 ≤ length (now space)) × Small (now ends) next k a (now space) ⌝ }
+    requires { ⌜ Turn (now ends) start k low × (a ≤ k) × (cellBytes ≤ length (now space)) × Small (now ends) next k a (now space) ⌝ }
     ensures { λ r. ⌜ RowMade (Live (now (ends .entry)) start) (newCell (now (ends .entry)) perm start next k (now (space .entry))) k a 0 (now (space .entry)) (now (space .exit)) ⌝ }
 {
     let ea = end_at(ends, a);
     let x = carried(ends, next, a);
     let last = carried(ends, next, k + 1);
-    let two = space[x * 65 + last];
+    let two = space[x * ACROSS + last];
     let mut m = k + 1;
     while 0 < m {
         let b = live_below(ends, start, low, m - 1);
@@ -107,18 +114,18 @@ fn fill_row(
             start,
             ea,
             eb,
-            space[x * 65 + y],
-            space[last * 65 + y],
+            space[x * ACROSS + y],
+            space[last * ACROSS + y],
             two,
         );
-        space[a * 65 + b] = v;
+        space[a * ACROSS + b] = v;
         m = b;
     }
 }
 
 // Makes the cells new for the turn of row k.
 fn fill_stage(ends: &[u16], perm: u8, start: u16, next: u16, k: usize, low: usize, space: &mut [u8])
-    requires { ⌜ Turn (now ends) start k low × (4225 ≤ length (now space)) × ((a : ℕ) → a ≤ k → Small (now ends) next k a (now space)) ⌝ }
+    requires { ⌜ Turn (now ends) start k low × (cellBytes ≤ length (now space)) × ((a : ℕ) → a ≤ k → Small (now ends) next k a (now space)) ⌝ }
     ensures { λ r. ⌜ StageMade (Live (now (ends .entry)) start) (newCell (now (ends .entry)) perm start next k (now (space .entry))) k 0 (now (space .entry)) (now (space .exit)) ⌝ }
 {
     let mut m = k + 1;
@@ -133,7 +140,7 @@ fn fill_stage(ends: &[u16], perm: u8, start: u16, next: u16, k: usize, low: usiz
 pub fn line_best(starts: &[u16], ends: &[u16], perms: &[u8], space: &mut [u8]) -> u8
     requires { ⌜ Line (now starts) (now ends) (now perms) ⌝ }
     requires { ⌜ Lows (now starts) (now ends) (now space) ⌝ }
-    ensures { λ r. ⌜ (r ≡ best (rows (now (starts .entry)) (now (ends .entry)) (now (perms .entry))) 0 0) × (drop 4225 (now (space .exit)) ≡ drop 4225 (now (space .entry))) ⌝ }
+    ensures { λ r. ⌜ (r ≡ best (rows (now (starts .entry)) (now (ends .entry)) (now (perms .entry))) 0 0) × (drop cellBytes (now (space .exit)) ≡ drop cellBytes (now (space .entry))) ⌝ }
 {
     space[0] = 1;
     let mut next = 65535;
@@ -141,7 +148,7 @@ pub fn line_best(starts: &[u16], ends: &[u16], perms: &[u8], space: &mut [u8]) -
     while 0 < k {
         k -= 1;
         let start = starts[k];
-        let low = basics::wide(space[4225 + k]);
+        let low = basics::wide(space[CELL_BYTES + k]);
         fill_stage(ends, perms[k], start, next, k, low, space);
         next = start;
     }
@@ -150,7 +157,7 @@ pub fn line_best(starts: &[u16], ends: &[u16], perms: &[u8], space: &mut [u8]) -
 
 // How many rows from the front on end by the tick start, of the first k.
 fn low_of(ends: &[u16], start: u16, k: usize) -> u8
-    requires { ⌜ (k ≤ length (now ends)) × (k < 64) ⌝ }
+    requires { ⌜ (k ≤ length (now ends)) × (k < maxRows) ⌝ }
     ensures { λ r. ⌜ (r ≤ k) × ((i : ℕ) → i < r → at (now (ends .entry)) i ≤ start) ⌝ }
 {
     let mut low: u8 = 0;
@@ -167,12 +174,12 @@ fn low_of(ends: &[u16], start: u16, k: usize) -> u8
 
 // Writes for each row the first row that can still matter in its turn after the cells.
 pub fn set_lows(starts: &[u16], ends: &[u16], space: &mut [u8])
-    requires { ⌜ (length (now starts) ≤ 64) × (length (now ends) ≡ length (now starts)) × (4608 ≤ length (now space)) ⌝ }
-    ensures { λ r. ⌜ Lows (now (starts .entry)) (now (ends .entry)) (now (space .exit)) × (drop 4608 (now (space .exit)) ≡ drop 4608 (now (space .entry))) ⌝ }
+    requires { ⌜ (length (now starts) ≤ maxRows) × (length (now ends) ≡ length (now starts)) × (coreBytes ≤ length (now space)) ⌝ }
+    ensures { λ r. ⌜ Lows (now (starts .entry)) (now (ends .entry)) (now (space .exit)) × (drop coreBytes (now (space .exit)) ≡ drop coreBytes (now (space .entry))) ⌝ }
 {
     let mut k = 0;
     while k < starts.len() {
-        space[4225 + k] = low_of(ends, starts[k], k);
+        space[CELL_BYTES + k] = low_of(ends, starts[k], k);
         k += 1;
     }
 }

@@ -16,7 +16,7 @@ use Rattle.labels.specs.Permission.{permits}
 use Rattle.basics.proofs.Tests.{leb-iff, or-iff}
 use Rattle.arcs.specs.Positions.{clear}
 use Rattle.arcs.specs.Order.{Crossing}
-use Rattle.pairs.specs.Pairs.{Cleared, beside, given, leaves, PairFit, AnyFit}
+use Rattle.pairs.specs.Pairs.{Cleared, beside, pairLabel, leaves, PairFit, AnyFit}
 use Rattle.pairs.proofs.Leaves.{left-iff, chosen, leaves-front, leaves-rest, rest-leaves, given-chosen}
 
 -- ---- arcs by position and end
@@ -137,7 +137,7 @@ module _ (positions ends qs : List ℕ) (m : ℕ) (crossing : Crossing positions
         go (no a) = rw (le-leb m w (omega arith))
 
     module _ (w1 w2 : ℕ) (H1 : Holder l m 1 w1) (H2 : Holder l m 2 w2) where
-      is-given : (k : ℕ) → k < m → given positions ends m w1 w2 k ≡ at l k
+      is-given : (k : ℕ) → k < m → pairLabel positions ends m w1 w2 k ≡ at l k
       is-given k h = go (eqb k w1) refl (eqb k w2) refl
         where
           other : (x : ℕ) → at l k ≡ x → x ≤ 2 → k ≢ w1 → k ≢ w2 → 0 ≡ x

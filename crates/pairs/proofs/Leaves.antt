@@ -14,7 +14,7 @@ use Rattle.basics.specs.Lists.{at}
 use Rattle.basics.proofs.Lists.{at-map}
 use Rattle.labels.specs.Permission.{permits, restrict}
 use Rattle.labels.proofs.Permissions.{restrict-iff, restrict-some}
-use Rattle.pairs.specs.Pairs.{gathered, beside, given, leaves, leftOf, LeftAll}
+use Rattle.pairs.specs.Pairs.{gathered, beside, pairLabel, leaves, leftOf, LeftAll}
 
 module _ (positions ends : List ℕ) (m w k : ℕ) where
   pub beside-none : m ≤ w → true ≡ beside positions ends m w k
@@ -37,7 +37,7 @@ module _ (positions ends : List ℕ) (m w1 w2 : ℕ) where
   pub left-iff : (k q x : ℕ) → (permits (leftOf positions ends m w1 w2 k q) x ≡ true) ↔ ((permits q x ≡ true) × (leaves positions ends m w1 w2 k x ≡ true))
   left-iff k q = restrict-iff q (leaves positions ends m w1 w2 k)
 
-  given-le : (k : ℕ) → given positions ends m w1 w2 k ≤ 2
+  given-le : (k : ℕ) → pairLabel positions ends m w1 w2 k ≤ 2
   given-le k = go (eqb k w1) (eqb k w2)
     where
       go : (a b : Bool) → cond a 1 (cond b 2 0) ≤ 2
@@ -46,7 +46,7 @@ module _ (positions ends : List ℕ) (m w1 w2 : ℕ) where
       go false false = omega arith
 
   -- a crossing row has the label that the pair gives it
-  pub leaves-front : (k x : ℕ) → k < m → (leaves positions ends m w1 w2 k x ≡ true) ↔ (given positions ends m w1 w2 k ≡ x)
+  pub leaves-front : (k x : ℕ) → k < m → (leaves positions ends m w1 w2 k x ≡ true) ↔ (pairLabel positions ends m w1 w2 k ≡ x)
   leaves-front k zero h = rw (lt-ltb k m h) (eqb-true _ _, eq-eqb _ _)
   leaves-front k (suc zero) h = rw (lt-ltb k m h) (eqb-true _ _, eq-eqb _ _)
   leaves-front k (suc (suc zero)) h = rw (lt-ltb k m h) (eqb-true _ _, eq-eqb _ _)
@@ -65,7 +65,7 @@ module _ (positions ends : List ℕ) (m w1 w2 : ℕ) where
   rest-leaves k (suc (suc (suc x))) h n f = absurd (omega arith)
 
   -- a row that is given a receiver is the receiver's crossing row
-  pub given-chosen : (k x : ℕ) → x ≢ 0 → given positions ends m w1 w2 k ≡ x → k ≡ chosen x
+  pub given-chosen : (k x : ℕ) → x ≢ 0 → pairLabel positions ends m w1 w2 k ≡ x → k ≡ chosen x
   given-chosen k x n e = go (eqb k w1) refl (eqb k w2) refl
     where
       go : (a : Bool) → eqb k w1 ≡ a → (b : Bool) → eqb k w2 ≡ b → k ≡ chosen x
@@ -74,12 +74,12 @@ module _ (positions ends : List ℕ) (m w1 w2 : ℕ) where
       go false p false q = absurd (n (sym (rw (p, q) at e)))
 
   -- a crossing row that is left with a label is left with the given one
-  pub left-given : (k q : ℕ) → k < m → 0 < leftOf positions ends m w1 w2 k q → permits (leftOf positions ends m w1 w2 k q) (given positions ends m w1 w2 k) ≡ true
+  pub left-given : (k q : ℕ) → k < m → 0 < leftOf positions ends m w1 w2 k q → permits (leftOf positions ends m w1 w2 k q) (pairLabel positions ends m w1 w2 k) ≡ true
   left-given k q h s =
       let p = restrict-some q (leaves positions ends m w1 w2 k) s in
       subst (λ (x : ℕ). permits (leftOf positions ends m w1 w2 k q) x ≡ true) (sym (leaves-front k (p .0) h .0 (left-iff k q (p .0) .0 (p .1) .1))) (p .1)
 
-  pub left-front : (k q g r : ℕ) → k < m → g ≡ given positions ends m w1 w2 k → r ≡ restrict q (eqb g 0) (eqb g 1) (eqb g 2) → r ≡ leftOf positions ends m w1 w2 k q
+  pub left-front : (k q g r : ℕ) → k < m → g ≡ pairLabel positions ends m w1 w2 k → r ≡ restrict q (eqb g 0) (eqb g 1) (eqb g 2) → r ≡ leftOf positions ends m w1 w2 k q
   left-front k q g r h e d = rw (d, e, lt-ltb k m h)
 
   pub left-rest : (k q r : ℕ) (a b : Bool) → m ≤ k → a ≡ beside positions ends m w1 k → b ≡ beside positions ends m w2 k → r ≡ restrict q true a b

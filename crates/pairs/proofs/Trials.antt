@@ -11,7 +11,7 @@ use lib.Seq.{getD-drop, take-all}
 use Rattle.basics.specs.Lists.{at}
 use Rattle.basics.proofs.Tests.{and-iff, ltb-iff, eqb-iff, cond-le}
 use Rattle.line.specs.Line.{Line, best, rows}
-use Rattle.line.specs.Cells.{lowAt, Lows}
+use Rattle.line.specs.Cells.{lowAt, Lows, cellBytes}
 use Rattle.pairs.specs.Capped.{Capped, Rows, Ready}
 use Rattle.pairs.specs.Pairs.{gathered, Cleared, PairFit, Within, AnyFit, Leaving, twice, one, withPair}
 use Rattle.pairs.proofs.Caps.{most-capped, capped-iff, within-none, within-more, within-reached}
@@ -53,8 +53,8 @@ twice-distinct m w1 w2 e q = go (decLt w1 m)
 
 -- ---- what is lent
 
-low-same : (s t : List ℕ) (k : ℕ) → drop 4225 t ≡ drop 4225 s → lowAt t k ≡ lowAt s k
-low-same s t k e = sym (getD-drop 4225 t k 0) ∙ ap (λ (l : List ℕ). getD l k 0) e ∙ getD-drop 4225 s k 0
+low-same : (s t : List ℕ) (k : ℕ) → drop cellBytes t ≡ drop cellBytes s → lowAt t k ≡ lowAt s k
+low-same s t k e = sym (getD-drop cellBytes t k 0) ∙ ap (λ (l : List ℕ). getD l k 0) e ∙ getD-drop cellBytes s k 0
 
 module _ {positions ends order perms : List ℕ} {m cap : ℕ} {left space : List ℕ} (R : Ready positions ends order perms m cap left space) where
   pub ready-rows : Rows positions ends order perms m left
@@ -69,7 +69,7 @@ module _ {positions ends order perms : List ℕ} {m cap : ℕ} {left space : Lis
       }
 
   -- the next pair is lent the same, if the room has kept its length and the low rows
-  pub ready-again : {left′ space′ : List ℕ} → length left′ ≡ length left → length space′ ≡ length space → drop 4225 space′ ≡ drop 4225 space
+  pub ready-again : {left′ space′ : List ℕ} → length left′ ≡ length left → length space′ ≡ length space → drop cellBytes space′ ≡ drop cellBytes space
       → Ready positions ends order perms m cap left′ space′
   ready-again {left′} {space′} a b e =
       record {
@@ -116,7 +116,7 @@ pub record Tried (cap : ℕ) (D : ℕ → List ℕ → Type 0) (m w : ℕ) (left
   pub within : w ≤ m + 1
   pub same-left : length left ≡ length left₀
   pub same-space : length space ≡ length space₀
-  pub frame : drop 4225 space ≡ drop 4225 space₀
+  pub frame : drop cellBytes space ≡ drop cellBytes space₀
   pub most : Capped cap (Within D w m) best
 
 pub tried-none : {cap : ℕ} {D : ℕ → List ℕ → Type 0} {m : ℕ} {left space : List ℕ} → Tried cap D m (m + 1) left left space space 0
@@ -126,12 +126,12 @@ module _ {cap : ℕ} {D : ℕ → List ℕ → Type 0} {m w : ℕ} {left₀ left
   pub tried-ready : {positions ends order perms : List ℕ} → Ready positions ends order perms m cap left₀ space₀ → Ready positions ends order perms m cap left space
   tried-ready R = ready-again R (t .same-left) (t .same-space) (t .frame)
 
-  pub tried-all : w ≤ 0 → Capped cap (Within D 0 m) best × (drop 4225 space ≡ drop 4225 space₀)
+  pub tried-all : w ≤ 0 → Capped cap (Within D 0 m) best × (drop cellBytes space ≡ drop cellBytes space₀)
   tried-all h = (subst (λ (k : ℕ). Capped cap (Within D k m) best) (omega arith) (t .most), t .frame)
 
   -- one class more
   module _ {v : ℕ} (some : 0 < w) (one : Capped cap (D (w - 1)) v) where
-    pub tried-more : {left′ space′ : List ℕ} {r : ℕ} → length left′ ≡ length left → length space′ ≡ length space → drop 4225 space′ ≡ drop 4225 space → r ≡ max best v
+    pub tried-more : {left′ space′ : List ℕ} {r : ℕ} → length left′ ≡ length left → length space′ ≡ length space → drop cellBytes space′ ≡ drop cellBytes space → r ≡ max best v
         → Tried cap D m (w - 1) left₀ left′ space₀ space′ r
     tried-more a b f e =
         record {
@@ -142,7 +142,7 @@ module _ {cap : ℕ} {D : ℕ → List ℕ → Type 0} {m w : ℕ} {left₀ left
           most = subst (λ (x : ℕ). Capped cap (Within D (w - 1) m) x) (sym e) (within-more (w - 1) w (omega arith) (omega (arith, t .within)) (t .most) one);
         }
 
-    pub tried-reached : {s : List ℕ} → cap ≤ v → s ≡ drop 4225 space → Capped cap (Within D 0 m) cap × (s ≡ drop 4225 space₀)
+    pub tried-reached : {s : List ℕ} → cap ≤ v → s ≡ drop cellBytes space → Capped cap (Within D 0 m) cap × (s ≡ drop cellBytes space₀)
     tried-reached h f =
         (within-reached (w - 1) (omega (arith, t .within)) (subst (λ (x : ℕ). Capped cap (D (w - 1)) x) (omega (arith, one .within)) one), f ∙ t .frame)
 

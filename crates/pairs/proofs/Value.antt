@@ -19,7 +19,7 @@ use Rattle.line.specs.Line.{Line, Settled, best, rows}
 use Rattle.line.proofs.Optimum.{line-sound, line-complete}
 use Rattle.arcs.proofs.Sorting.{key-other}
 use Rattle.pairs.specs.Capped.{Most}
-use Rattle.pairs.specs.Pairs.{given, leftOf, PairFit, LeftAll, one, withPair}
+use Rattle.pairs.specs.Pairs.{pairLabel, leftOf, PairFit, LeftAll, one, withPair}
 use Rattle.pairs.proofs.Leaves.{left-iff, leaves-front, left-given}
 
 -- a list of m entries by a rule
@@ -45,7 +45,7 @@ one-more i w = go (decLt w i) (ℕ-discrete i w)
     go (no a) (no e) = rw (le-ltb w i (omega arith), le-ltb w (i + 1) (omega arith), ne-eqb i w e)
 
 module _ (positions ends : List ℕ) (m w1 w2 : ℕ) (distinct : w1 ≡ w2 → m ≤ w1) where
-  hears-given : (i : ℕ) → i < m → hears (given positions ends m w1 w2 i) ≡ cond (eqb i w1) 1 0 + cond (eqb i w2) 1 0
+  hears-given : (i : ℕ) → i < m → hears (pairLabel positions ends m w1 w2 i) ≡ cond (eqb i w1) 1 0 + cond (eqb i w2) 1 0
   unfolding hears
   hears-given i h = go (eqb i w1) refl (eqb i w2) refl
     where
@@ -55,7 +55,7 @@ module _ (positions ends : List ℕ) (m w1 w2 : ℕ) (distinct : w1 ≡ w2 → m
       go false p true q = refl
       go false p false q = refl
 
-  pub heard-front : (l : List ℕ) → m ≤ length l → ((k : ℕ) → k < m → at l k ≡ given positions ends m w1 w2 k) → heard (take m l) ≡ one m w1 + one m w2
+  pub heard-front : (l : List ℕ) → m ≤ length l → ((k : ℕ) → k < m → at l k ≡ pairLabel positions ends m w1 w2 k) → heard (take m l) ≡ one m w1 + one m w2
   heard-front l b f = go m (omega arith)
     where
       go : (i : ℕ) → i ≤ m → heard (take i l) ≡ one i w1 + one i w2
@@ -116,7 +116,7 @@ module _ (positions ends perms left : List ℕ) (m w1 w2 : ℕ) (each-end : leng
       inside i h = omega (arith, length-drop m positions)
 
   -- and labels that settle the line, behind the labels that the pair gives, are labels that it fits
-  fitted : (w1 ≡ w2 → m ≤ w1) → (f t : List ℕ) → length f ≡ m → ((k : ℕ) → k < m → at f k ≡ given positions ends m w1 w2 k)
+  fitted : (w1 ≡ w2 → m ≤ w1) → (f t : List ℕ) → length f ≡ m → ((k : ℕ) → k < m → at f k ≡ pairLabel positions ends m w1 w2 k)
       → Settled (drop m positions) (drop m ends) (drop m left) t → PairFit positions ends perms m w1 w2 (f ++ t)
   fitted distinct f t long gives S =
       record {
@@ -152,11 +152,11 @@ module _ (positions ends perms left : List ℕ) (m w1 w2 : ℕ) (each-end : leng
     reached : (c : ℕ) → best (rows (drop m positions) (drop m ends) (drop m left)) 0 0 ≡ suc c
         → (l : List ℕ) × PairFit positions ends perms m w1 w2 l × (suc (heard l) ≡ suc c + one m w1 + one m w2)
     reached c e =
-        let f = listed (given positions ends m w1 w2) m in
+        let f = listed (pairLabel positions ends m w1 w2) m in
         let t = line-sound _ _ _ on-line c e in
         (f .0 ++ t .0, fitted distinct (f .0) (t .0) (f .1) (f .2) (t .1), count (f .0) (t .0) (f .1) (f .2) (t .2))
       where
-        count : (f t : List ℕ) → length f ≡ m → ((k : ℕ) → k < m → at f k ≡ given positions ends m w1 w2 k) → heard t ≡ c → suc (heard (f ++ t)) ≡ suc c + one m w1 + one m w2
+        count : (f t : List ℕ) → length f ≡ m → ((k : ℕ) → k < m → at f k ≡ pairLabel positions ends m w1 w2 k) → heard t ≡ c → suc (heard (f ++ t)) ≡ suc c + one m w1 + one m w2
         count f t long gives h =
             omega (arith, heard-append f t, ap heard (take-all m f (omega arith)), heard-front positions ends m w1 w2 distinct f (omega arith) gives)
 
@@ -172,7 +172,7 @@ module _ (positions ends perms left : List ℕ) (m w1 w2 : ℕ) (each-end : leng
           heard-front positions ends m w1 w2 distinct l (omega (arith, F .fit .each, crossing .within)) gives,
         )
       where
-        gives : (k : ℕ) → k < m → at l k ≡ given positions ends m w1 w2 k
+        gives : (k : ℕ) → k < m → at l k ≡ pairLabel positions ends m w1 w2 k
         gives k h =
             sym (leaves-front positions ends m w1 w2 k (at l k) h .0 (left-iff positions ends m w1 w2 k (at perms k) (at l k) .0 (F .fit .allowed k (omega (arith, crossing .within))) .1))
 

@@ -3,6 +3,7 @@ use Prim.Native.Nat.{ℕ, suc, _≤_, _<_}
 use mathlib.Core.Path.{_≡_}
 use mathlib.Core.List.{List}
 use lib.ListN.{length, drop}
+use Rattle.basics.specs.Limits.{maxRows}
 use Rattle.basics.specs.Lists.{at}
 use Rattle.labels.specs.Labels.{heard}
 use Rattle.arcs.specs.Order.{InOrder, Crossing}
@@ -30,7 +31,7 @@ pub record Rows (positions ends order perms : List ℕ) (m : ℕ) (left : List �
 
 -- what `capped_best` is lent: rows in order, m of them crossing the cut, a permission for each row, the low rows of the rows that do not cross, and room
 pub record Ready (positions ends order perms : List ℕ) (m cap : ℕ) (left space : List ℕ) : Type 0 where
-  pub few : length positions ≤ 64
+  pub few : length positions ≤ maxRows
   pub each-end : length ends ≡ length positions
   pub each-order : length order ≡ length positions
   pub each-perm : length perms ≡ length positions

@@ -5,7 +5,7 @@ ghost use Prim.Native.Nat.{_≤_, _<_};
 ghost use lib.Dec.{eqb};
 ghost use lib.ListN.{length, drop};
 ghost use Rattle.line.specs.Line.{Line, best, rows};
-ghost use Rattle.line.specs.Cells.{Lows};
+ghost use Rattle.line.specs.Cells.{Lows, cellBytes};
 ghost use Rattle.pairs.specs.Pairs.{gathered, Cleared, beside, leftOf, PairFit, SecondFit, Leaving, twice, one, withPair};
 ghost use Rattle.pairs.specs.Capped.{Capped, Rows, Ready};
 
@@ -106,7 +106,7 @@ fn rest_best(positions: &[u16], ends: &[u16], left: &[u8], m: usize, space: &mut
     requires { ⌜ (m ≤ length (now positions)) × (length (now ends) ≡ length (now positions)) × (length (now left) ≡ length (now positions)) ⌝ }
     requires { ⌜ Line (drop m (now positions)) (drop m (now ends)) (drop m (now left)) ⌝ }
     requires { ⌜ Lows (drop m (now positions)) (drop m (now ends)) (now space) ⌝ }
-    ensures { λ r. ⌜ (r ≡ best (rows (drop m (now (positions .entry))) (drop m (now (ends .entry))) (drop m (now (left .entry)))) 0 0) × (drop 4225 (now (space .exit)) ≡ drop 4225 (now (space .entry))) ⌝ }
+    ensures { λ r. ⌜ (r ≡ best (rows (drop m (now (positions .entry))) (drop m (now (ends .entry))) (drop m (now (left .entry)))) 0 0) × (drop cellBytes (now (space .exit)) ≡ drop cellBytes (now (space .entry))) ⌝ }
 {
     line::line_best(&positions[m..], &ends[m..], &left[m..], space)
 }
@@ -125,7 +125,7 @@ fn pair_best(
     space: &mut [u8],
 ) -> u8
     requires { ⌜ Ready (now positions) (now ends) (now order) (now perms) m cap (now left) (now space) ⌝ }
-    ensures { λ r. ⌜ Capped cap (PairFit (now (positions .entry)) (now (ends .entry)) (gathered (now (order .entry)) (now (perms .entry))) m w1 w2) r × (drop 4225 (now (space .exit)) ≡ drop 4225 (now (space .entry))) ⌝ }
+    ensures { λ r. ⌜ Capped cap (PairFit (now (positions .entry)) (now (ends .entry)) (gathered (now (order .entry)) (now (perms .entry))) m w1 w2) r × (drop cellBytes (now (space .exit)) ≡ drop cellBytes (now (space .entry))) ⌝ }
 {
     if is_twice(m, w1, w2) {
         return 0;
@@ -151,7 +151,7 @@ fn second_best(
     space: &mut [u8],
 ) -> u8
     requires { ⌜ Ready (now positions) (now ends) (now order) (now perms) m cap (now left) (now space) ⌝ }
-    ensures { λ r. ⌜ Capped cap (SecondFit (now (positions .entry)) (now (ends .entry)) (gathered (now (order .entry)) (now (perms .entry))) m w1) r × (drop 4225 (now (space .exit)) ≡ drop 4225 (now (space .entry))) ⌝ }
+    ensures { λ r. ⌜ Capped cap (SecondFit (now (positions .entry)) (now (ends .entry)) (gathered (now (order .entry)) (now (perms .entry))) m w1) r × (drop cellBytes (now (space .exit)) ≡ drop cellBytes (now (space .entry))) ⌝ }
 {
     let mut best: u8 = 0;
     let mut w2 = m + 1;
@@ -179,7 +179,7 @@ pub fn capped_best(
     space: &mut [u8],
 ) -> u8
     requires { ⌜ Ready (now positions) (now ends) (now order) (now perms) m cap (now left) (now space) ⌝ }
-    ensures { λ r. ⌜ Capped cap (Cleared (now (positions .entry)) (now (ends .entry)) (gathered (now (order .entry)) (now (perms .entry)))) r × (drop 4225 (now (space .exit)) ≡ drop 4225 (now (space .entry))) ⌝ }
+    ensures { λ r. ⌜ Capped cap (Cleared (now (positions .entry)) (now (ends .entry)) (gathered (now (order .entry)) (now (perms .entry)))) r × (drop cellBytes (now (space .exit)) ≡ drop cellBytes (now (space .entry))) ⌝ }
 {
     let mut best: u8 = 0;
     let mut w1 = m + 1;

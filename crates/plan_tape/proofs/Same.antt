@@ -16,7 +16,7 @@ use Rattle.refusals.specs.declared.Refusal.the-variants.{Accepted}
 use Rattle.refusals.specs.Refusals.{numberOf, answered}
 use Rattle.table.specs.Tables.{Table, Plan}
 use Rattle.plan_tape.specs.PlanTapes.{planTape}
-use Rattle.plan_tape.specs.Written.{tapeOf, writeRefusal, Written, written, SamePlan}
+use Rattle.plan_tape.specs.Written.{tapeOf, writeRefusal, Written, writing, written, SamePlan}
 use Rattle.plan_tape.proofs.Accepted.{Fit, write-fit}
 use Rattle.plan_tape.proofs.Reading.{Listen, Reading, read, Heard, States, tape-states}
 
@@ -102,8 +102,8 @@ module _ (t : Table) (labels before : List ℕ) where
 
       yields : Bool → Written
       yields b =
-          cond b (record { answer = answered Accepted (length (tapeOf t labels)); buffer = front (tapeOf t labels) before })
-          (record { answer = answered (writeRefusal t labels (length before)) 0; buffer = before })
+          cond b (writing (answered Accepted (length (tapeOf t labels))) (front (tapeOf t labels) before))
+          (writing (answered (writeRefusal t labels (length before)) 0) before)
 
       go : (b : Bool) → eqb (numberOf (writeRefusal t labels (length before))) 0 ≡ b → yields b .answer .refusal ≡ Accepted
           → Fit t labels (length before) × (take (yields b .answer .count) (yields b .buffer) ≡ tapeOf t labels)
@@ -114,10 +114,10 @@ module _ (t : Table) (labels before : List ℕ) where
 pub calls-same : (t u : Table) (labels before labels′ before′ : List ℕ)
     → written t labels before .answer .refusal ≡ Accepted → written u labels′ before′ .answer .refusal ≡ Accepted
     → take (written t labels before .answer .count) (written t labels before .buffer) ≡ take (written u labels′ before′ .answer .count) (written u labels′ before′ .buffer)
-    → (t .kind ≡ u .kind) × (t .ticks ≡ u .ticks) × SamePlan (t .starts) (t .ends) labels (u .starts) (u .ends) labels′
+    → (t .setting .kind ≡ u .setting .kind) × (t .setting .ticks ≡ u .setting .ticks) × SamePlan (t .starts) (t .ends) labels (u .starts) (u .ends) labels′
 unfolding tapeOf
 calls-same t u labels before labels′ before′ a b e =
     let f = accepted-tape t labels before a in
     let g = accepted-tape u labels′ before′ b in
-    tapes-same (t .kind) (u .kind) (t .ticks) (u .ticks) (t .starts) (t .ends) labels (u .starts) (u .ends) labels′
+    tapes-same (t .setting .kind) (u .setting .kind) (t .setting .ticks) (u .setting .ticks) (t .starts) (t .ends) labels (u .starts) (u .ends) labels′
     (plan-known t labels (f .0 .plan)) (plan-known u labels′ (g .0 .plan)) (sym (f .1) ∙ e ∙ g .1)

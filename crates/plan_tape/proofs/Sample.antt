@@ -6,9 +6,11 @@ use lib.ListN.{replicate}
 use Rattle.window.specs.declared.Kind.the-variants.{Round}
 use Rattle.refusals.specs.declared.Refusal.{Refusal}
 use Rattle.refusals.specs.declared.Refusal.the-variants.{Accepted, NotPlan, Buffer}
-use Rattle.table.specs.Tables.{Table, table}
+use Rattle.refusals.specs.Refusals.{answered}
+use Rattle.window.specs.Hours.{noHours}
+use Rattle.table.specs.Tables.{settingOf, Table, table}
 use Rattle.plan_tape.specs.PlanTapes.{planTape}
-use Rattle.plan_tape.specs.Written.{Written, written}
+use Rattle.plan_tape.specs.Written.{Written, writing, written}
 
 abbrev starts : List ℕ
 starts = 10 ∷ 20 ∷ 25 ∷ 90 ∷ []
@@ -20,7 +22,7 @@ abbrev labels : List ℕ
 labels = 1 ∷ 2 ∷ 0 ∷ 1 ∷ []
 
 abbrev P2 : Table
-P2 = table Round 100 ((0 ∷ 0 ∷ []) ∷ (0 ∷ 0 ∷ []) ∷ []) starts ends (replicate 4 0)
+P2 = table (settingOf Round 100 noHours) starts ends (replicate 4 0)
 
 abbrev tape : List ℕ
 tape =
@@ -40,12 +42,12 @@ sample = refl
 
 -- a call that finds nines in a buffer of so many bytes
 abbrev refused : Refusal → ℕ → Written
-refused r bytes = record { answer = record { refusal = r; count = 0 }; buffer = replicate bytes 9 }
+refused r bytes = writing (answered r 0) (replicate bytes 9)
 
 -- the tape in a buffer of 28 bytes and of 26; "A buffer of 25 gives 10"; "labels of P2 with a 3 in them (9)", before the buffer of 25 bytes gives 10
 pub session :
-    (written P2 labels (replicate 28 9) ≡ record { answer = record { refusal = Accepted; count = 26 }; buffer = tape ++ (9 ∷ 9 ∷ []) })
-    × (written P2 labels (replicate 26 9) ≡ record { answer = record { refusal = Accepted; count = 26 }; buffer = tape })
+    (written P2 labels (replicate 28 9) ≡ writing (answered Accepted 26) (tape ++ (9 ∷ 9 ∷ [])))
+    × (written P2 labels (replicate 26 9) ≡ writing (answered Accepted 26) tape)
     × (written P2 labels (replicate 25 9) ≡ refused Buffer 25)
     × (written P2 (1 ∷ 2 ∷ 3 ∷ 1 ∷ []) (replicate 25 9) ≡ refused NotPlan 25)
 unfolding written

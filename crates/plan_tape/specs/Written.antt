@@ -12,20 +12,20 @@ use Rattle.refusals.specs.declared.Refusal.{Refusal}
 use Rattle.refusals.specs.declared.Refusal.the-variants.{Accepted, NotPlan, Buffer}
 use Rattle.refusals.specs.declared.Answer.{Answer}
 use Rattle.refusals.specs.Refusals.{answered, asked, passes, _then_}
-use Rattle.table.specs.Tables.{Table, rows, Plan, isPlan}
-use Rattle.table.specs.Checks.{listsRefusal, tableLooked}
+use Rattle.table.specs.Tables.{Table, Plan, isPlan}
+use Rattle.table.specs.Checks.{lengthsRefusal, listsRefusal, tableLooked}
 use Rattle.plan_tape.specs.PlanTapes.{planTape}
 
 -- the plan tape of a table and labels
 unfoldable pub tapeOf : Table → List ℕ → List ℕ
 unfolding planTape
-tapeOf t labels = planTape (t .kind) (t .ticks) (t .starts) (t .ends) labels
+tapeOf t labels = planTape (t .setting .kind) (t .setting .ticks) (t .starts) (t .ends) labels
 
 -- "Writer's order: 1, 2, 4, 5, rows for 6 and 7, 9, 10." "9: labels offered to the writer are not a plan." "10: plan tape buffer shorter than the tape."
 unfoldable pub writeRefusal : Table → List ℕ → ℕ → Refusal
-unfolding listsRefusal tableLooked isPlan tapeOf
+unfolding lengthsRefusal tableLooked isPlan tapeOf
 writeRefusal t labels buffer =
-    listsRefusal (rows t) (length (t .ends)) (length (t .marks)) (length labels)
+    listsRefusal t labels
     then tableLooked t .refusal
     then asked (isPlan t labels) NotPlan
     then asked (leb (length (tapeOf t labels)) buffer) Buffer
@@ -35,17 +35,17 @@ pub record Written : Type 0 where
   pub answer : Answer
   pub buffer : List ℕ
 
+abbrev pub writing : Answer → List ℕ → Written
+writing answer buffer = record { answer = answer; buffer = buffer }
+
 -- The writer's answer for a table, labels and a tape buffer that held `before`. "The writer reports that length as its count and leaves the bytes after it untouched."
 -- "The first [refusal] that applies is reported, with count 0. Outputs .. are untouched."
 unfoldable pub written : Table → List ℕ → List ℕ → Written
 unfolding writeRefusal tapeOf
 written t labels before =
     cond (passes (writeRefusal t labels (length before)))
-    (record {
-      answer = answered Accepted (length (tapeOf t labels));
-      buffer = front (tapeOf t labels) before;
-    })
-    (record { answer = answered (writeRefusal t labels (length before)) 0; buffer = before })
+    (writing (answered Accepted (length (tapeOf t labels))) (front (tapeOf t labels) before))
+    (writing (answered (writeRefusal t labels (length before)) 0) before)
 
 -- What demand 2 asks of a call whose checks before 9 pass.
 pub record Demand2 (t : Table) (labels before : List ℕ) (w : Written) : Type 0 where

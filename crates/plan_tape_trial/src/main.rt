@@ -64,9 +64,7 @@ fn write_lists(
     let hours = hours_of(pairs);
     let part = at_most(head.room, tape.len());
     plan_tape::write_plan(
-        kind,
-        head.ticks,
-        hours,
+        table::setting_of(kind, head.ticks, hours),
         words(starts, head.rows),
         words(ends, head.rows),
         bytes(marks, head.rows),

@@ -1,4 +1,4 @@
--- What the planner's parts report is what `planned` yields: the core's answer is the best plan or none, a refusal changes nothing, and the working space is cleared where paper 01 says so.
+-- What the planner's parts report is what `planCall` yields: the core's answer is the best plan or none, a refusal changes nothing, and the working space is cleared where paper 01 says so.
 use Prim.Native.Nat.{ℕ, _-_, _≤_, _<_}
 use mathlib.Core.Path.{_≡_, refl, sym, ap, _∙_}
 use mathlib.Core.List.{List, map, _++_}
@@ -7,6 +7,7 @@ use native.Mathlib.Omega.{arith}
 use lib.ListN.{length, drop, replicate}
 use lib.Seq.{drop-drop}
 use borrow.Author.Tests.{ne-eqb, le-leb, lt-leb}
+use Rattle.line.specs.Cells.{coreBytes}
 use Rattle.labels.specs.Labels.{heard}
 use Rattle.labels.specs.Permission.{labelOf}
 use Rattle.labels.proofs.Best.{best-iff}
@@ -15,43 +16,42 @@ use Rattle.refusals.specs.declared.Refusal.{Refusal}
 use Rattle.refusals.specs.declared.Refusal.the-variants.{Accepted, Space, NoPlan}
 use Rattle.refusals.specs.declared.Answer.{Answer}
 use Rattle.refusals.specs.Refusals.{numberOf, answered, _then_}
-use Rattle.table.specs.Tables.{Table, rows, Valid}
-use Rattle.table.specs.Checks.{listsRefusal, tableLooked}
-use Rattle.table.specs.Planned.{spaceBytes, spaceRefusal, checked, bestPlan, given, planned, spaceAfter, Demand3}
 use Rattle.refusals.proofs.Refusals.{Passed, then-first, then-next}
+use Rattle.table.specs.Tables.{Table, Valid}
+use Rattle.table.specs.Checks.{listsRefusal, tableLooked}
+use Rattle.table.specs.Planned.{spaceBytes, spaceRefusal, checked, bestPlan, Planned, answering, given, planned, spaceAfter, called, planCall, Demand3}
 use Rattle.table.proofs.Checked.{Not8, checked-8, checked-valid}
-use Rattle.table.proofs.Rivals.{best-plan, no-plan, planned-passed, demand-3}
+use Rattle.table.proofs.Rivals.{best-plan, no-plan, planned-passed, planned-refused, demand-3}
 use Rattle.tracks.specs.Tracks.{Answered}
-use Rattle.planner.specs.Turned.{Turned, Checked}
-use Rattle.planner.proofs.Turning.{plan-assigned}
+use Rattle.planner.specs.Rows.{circleOf, ArcsOf, Checked}
+use Rattle.planner.proofs.Rows.{plan-assigned}
 
 -- ---- a checked table
 
-module _ (t : Table) (valid : Valid t) (before : List ℕ) {starts lengths perms : List ℕ} (turned : Turned t (rows t) starts lengths perms)
-    {r : ℕ} {left : List ℕ} (a : Answered (Assigned (t .ticks) starts lengths perms) r left) where
+module _ (t : Table) (valid : Valid t) (before : List ℕ) {starts lengths perms : List ℕ} (arcs : ArcsOf t starts lengths perms)
+    {r : ℕ} {left : List ℕ} (a : Answered (Assigned (circleOf (t .setting)) starts lengths perms) r left) where
   none-left : r ≡ 0 → bestPlan t ≡ none
-  none-left e = no-plan t valid .1 (λ l P. a .none e l (plan-assigned t valid turned l .0 P))
+  none-left e = no-plan t valid .1 (λ l P. a .none e l (plan-assigned t valid arcs l .0 P))
 
   one-left : 0 < r → bestPlan t ≡ some (map labelOf left)
-  one-left h = best-plan t valid (map labelOf left) .1 (best-iff (λ l. (plan-assigned t valid turned l .1, plan-assigned t valid turned l .0)) (a .found h))
+  one-left h = best-plan t valid (map labelOf left) .1 (best-iff (λ l. (plan-assigned t valid arcs l .1, plan-assigned t valid arcs l .0)) (a .found h))
 
-  pub none-given : r ≡ 0 → (answered NoPlan 0 ≡ given (bestPlan t) before .answer) × (before ≡ given (bestPlan t) before .labels)
+  pub none-given : r ≡ 0 → answering (answered NoPlan 0) before ≡ given (bestPlan t) before
   unfolding given
-  none-given e = rw (none-left e) (refl, refl)
+  none-given e = rw (none-left e) refl
 
-  pub one-given : (r ≡ 0 → ⊥) → (after : List ℕ) → after ≡ map labelOf left
-      → (answered Accepted (r - 1) ≡ given (bestPlan t) before .answer) × (after ≡ given (bestPlan t) before .labels)
+  pub one-given : (r ≡ 0 → ⊥) → (after : List ℕ) → after ≡ map labelOf left → answering (answered Accepted (r - 1)) after ≡ given (bestPlan t) before
   unfolding given
   one-given n after e =
       let h : 0 < r = omega (arith, n) in
       let k : r - 1 ≡ heard (map labelOf left) = omega (arith, a .count h) in
-      rw (one-left h) (ap (answered Accepted) k, e)
+      rw (one-left h, e, k) refl
 
 -- ---- a refusal
 
 module _ (t : Table) (before space : List ℕ) where
   abbrev lists : Refusal
-  lists = listsRefusal (rows t) (length (t .ends)) (length (t .marks)) (length before)
+  lists = listsRefusal t before
 
   pub lists-refuses : (numberOf lists ≡ 0 → ⊥) → lists ≡ checked t before (length space)
   unfolding checked
@@ -69,39 +69,32 @@ module _ (t : Table) (before space : List ℕ) where
   unfolding spaceAfter
   space-kept r n h = rw (ne-eqb (numberOf r) 0 n, ne-eqb (numberOf r) 8 (h .not)) refl
 
-  planned-refused : (numberOf (checked t before (length space)) ≡ 0 → ⊥)
-      → planned t before (length space) ≡ record { answer = answered (checked t before (length space)) 0; labels = before }
-  unfolding planned
-  planned-refused n = rw (ne-eqb (numberOf (checked t before (length space))) 0 n) refl
-
-  -- what a call promises of its answer, its labels and its working space
+  -- what a call promises of what it gives
   abbrev pub Promised : Answer → List ℕ → List ℕ → Type 0
   Promised a after space′ =
-      (a ≡ planned t before (length space) .answer)
-      × ((after ≡ planned t before (length space) .labels)
-      × ((space′ ≡ spaceAfter (a .refusal) space)
-      × (Passed (checked t before (length space)) → Demand3 t a after)))
+      (called a after space′ ≡ planCall t before space)
+      × (Passed (checked t before (length space)) → Demand3 t a after)
 
-  promised : (a : Answer) (after space′ : List ℕ) → a ≡ planned t before (length space) .answer → after ≡ planned t before (length space) .labels
-      → space′ ≡ spaceAfter (a .refusal) space → Promised a after space′
-  promised a after space′ e l s = (e, (l, (s, λ p. rw (e, l) (demand-3 t before (length space) p))))
+  promised : (a : Answer) (after space′ : List ℕ) → answering a after ≡ planned t before (length space) → space′ ≡ spaceAfter (a .refusal) space → Promised a after space′
+  unfolding planCall
+  promised a after space′ e s =
+      let kept : space′ ≡ spaceAfter (planned t before (length space) .answer .refusal) space = s ∙ ap (λ (p : Planned). spaceAfter (p .answer .refusal) space) e in (
+        λ i. called (e i .answer) (e i .labels) (kept i),
+        λ p. rw (ap (λ (x : Planned). x .answer) e, ap (λ (x : Planned). x .labels) e) (demand-3 t before (length space) p),
+      )
 
   -- what a refused call promises
-  pub refused-said : (r : Refusal) (a : Answer) → a ≡ answered r 0 → r ≡ checked t before (length space) → (numberOf r ≡ 0 → ⊥)
-      → Promised a before space
+  pub refused-said : (r : Refusal) (a : Answer) → a ≡ answered r 0 → r ≡ checked t before (length space) → (numberOf r ≡ 0 → ⊥) → Promised a before space
   refused-said r a e q n =
       let m : numberOf (checked t before (length space)) ≡ 0 → ⊥ = λ z. n (ap numberOf q ∙ z) in
-      let p = planned-refused m in
       promised a before space
-      (e ∙ ap (λ x. answered x 0) q ∙ sym (ap (λ x. x .answer) p))
-      (sym (ap (λ x. x .labels) p))
+      (ap (λ x. answering x before) (e ∙ ap (λ x. answered x 0) q) ∙ sym (planned-refused t before (length space) m))
       (rw e (space-kept r n (rw q (checked-8 t before (length space)))))
 
   -- ---- an answer
 
   -- what planning a checked table is lent
   pub ready : Passed (checked t before (length space)) → spaceBytes ≤ length space → Checked t before space
-  unfolding spaceBytes
   ready p h =
       let v = checked-valid t before (length space) p in
       record { valid = v .0; each-label = v .1; room = omega arith }
@@ -111,18 +104,15 @@ module _ (t : Table) (before space : List ℕ) where
   cleared none = refl
   cleared (some l) = refl
 
-  rest-kept : (used : List ℕ) → drop 4608 used ≡ drop 4608 space → drop spaceBytes used ≡ drop spaceBytes space
-  unfolding spaceBytes
-  rest-kept used e = sym (drop-drop 11776 4608 used) ∙ ap (drop 11776) e ∙ drop-drop 11776 4608 space
+  rest-kept : (used : List ℕ) → drop coreBytes used ≡ drop coreBytes space → drop spaceBytes used ≡ drop spaceBytes space
+  rest-kept used e = sym (drop-drop (spaceBytes - coreBytes) coreBytes used) ∙ ap (drop (spaceBytes - coreBytes)) e ∙ drop-drop (spaceBytes - coreBytes) coreBytes space
 
   -- what a call that passes the checks promises
   pub answer-said : Passed (checked t before (length space)) → (a : Answer) (after used space′ : List ℕ)
-      → a ≡ given (bestPlan t) before .answer → after ≡ given (bestPlan t) before .labels → drop 4608 used ≡ drop 4608 space
+      → answering a after ≡ given (bestPlan t) before → drop coreBytes used ≡ drop coreBytes space
       → space′ ≡ replicate spaceBytes 0 ++ drop spaceBytes used
       → Promised a after space′
-  answer-said p a after used space′ e l d s =
-      let q = planned-passed t before (length space) p in
+  answer-said p a after used space′ e d s =
       promised a after space′
-      (e ∙ sym (ap (λ x. x .answer) q))
-      (l ∙ sym (ap (λ x. x .labels) q))
-      (s ∙ ap (λ x. replicate spaceBytes 0 ++ x) (rest-kept used d) ∙ rw e (cleared (bestPlan t)))
+      (e ∙ sym (planned-passed t before (length space) p))
+      (s ∙ ap (λ x. replicate spaceBytes 0 ++ x) (rest-kept used d) ∙ cleared (bestPlan t) ∙ sym (ap (λ (x : Planned). spaceAfter (x .answer .refusal) space) e))

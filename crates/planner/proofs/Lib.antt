@@ -1,3 +1,3 @@
 -- Laws of the planner.
-pub mod Turning
+pub mod Rows
 pub mod Answering

@@ -1,2 +1,2 @@
 -- What the contracts of the crate `planner` cite.
-pub mod Turned
+pub mod Rows

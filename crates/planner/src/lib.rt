@@ -3,34 +3,59 @@ ghost use mathlib.Core.Path.{_≡_};
 ghost use mathlib.Core.List.{_++_, map};
 ghost use Prim.Native.Nat.{_≤_};
 ghost use lib.ListN.{length, drop, replicate};
+ghost use Rattle.line.specs.Cells.{coreBytes};
 ghost use Rattle.labels.specs.Permission.{labelOf};
-ghost use Rattle.table.specs.Tables.{table, Valid};
 ghost use Rattle.refusals.specs.Refusals.{numberOf};
-ghost use Rattle.table.specs.Planned.{spaceBytes, checked, bestPlan, given, planned, spaceAfter, Demand3};
-ghost use Rattle.planner.specs.Turned.{permissionOf, Turned, Room, Checked};
+ghost use Rattle.table.specs.Tables.{table, Valid, ValidRow};
+ghost use Rattle.table.specs.Planned.{spaceBytes, checked, bestPlan, answering, given, called, planCall, Demand3};
+ghost use Rattle.planner.specs.Rows.{circleOf, arcOf, permissionOf, ArcLists, ArcsOf, Checked};
+use basics::MAX_ROWS;
 use refusals::Answer;
 use refusals::Refusal;
-use window::Kind;
+use table::Setting;
+use window::Row;
 
 // The working space that a call needs and clears, in bytes.
 pub const SPACE_BYTES: usize = 16384;
 
+// An arc of a circle: its first tick and how many ticks it has.
+pub struct Arc {
+    pub start: u16,
+    pub length: u16,
+}
+
+// The ticks of the circle on which a table's rows are arcs.
+fn circle_of(setting: Setting) -> u16
+    ensures { λ r. ⌜ r ≡ circleOf setting ⌝ }
+{
+    setting.ticks
+}
+
+// The arc of a row.
+fn arc_of(setting: Setting, row: Row) -> Arc
+    requires { ⌜ ValidRow setting row ⌝ }
+    ensures { λ r. ⌜ r ≡ arcOf setting row ⌝ }
+{
+    let kind = setting.kind;
+    let start = row.start;
+    let length = window::ticks_in(kind, setting.ticks, start, row.end);
+    Arc { start, length }
+}
+
 // The labels that a row may have, as a permission.
-fn permission(kind: Kind, hours: [[u16; 2]; 2], start: u16, end: u16, mark: u8) -> u8
-    ensures { λ r. ⌜ r ≡ permissionOf kind hours start end mark ⌝ }
+fn permission(setting: Setting, row: Row) -> u8
+    ensures { λ r. ⌜ r ≡ permissionOf setting row ⌝ }
 {
     labels::permission::permission_of(
-        table::plan::is_allowed(kind, hours, start, end, mark, 0),
-        table::plan::is_allowed(kind, hours, start, end, mark, 1),
-        table::plan::is_allowed(kind, hours, start, end, mark, 2),
+        table::plan::is_allowed(setting, row, 0),
+        table::plan::is_allowed(setting, row, 1),
+        table::plan::is_allowed(setting, row, 2),
     )
 }
 
-// Turns the rows of a checked table into arcs and permissions.
-fn turn(
-    kind: Kind,
-    ticks: u16,
-    hours: [[u16; 2]; 2],
+// Writes the arcs and permissions of the rows of a checked table.
+fn set_arcs(
+    setting: Setting,
     starts: &[u16],
     ends: &[u16],
     marks: &[u8],
@@ -38,17 +63,17 @@ fn turn(
     arc_lengths: &mut [u16],
     perms: &mut [u8],
 )
-    requires { ⌜ Valid (table kind ticks hours (now starts) (now ends) (now marks)) ⌝ }
-    requires { ⌜ Room (table kind ticks hours (now starts) (now ends) (now marks)) (now «arc_starts») (now «arc_lengths») (now perms) ⌝ }
-    ensures { λ r. ⌜ Turned (table kind ticks hours (now (starts .entry)) (now (ends .entry)) (now (marks .entry))) (length (now (starts .entry))) (now («arc_starts» .exit)) (now («arc_lengths» .exit)) (now (perms .exit)) ⌝ }
+    requires { ⌜ Valid (table setting (now starts) (now ends) (now marks)) ⌝ }
+    requires { ⌜ ArcLists (table setting (now starts) (now ends) (now marks)) (now «arc_starts») (now «arc_lengths») (now perms) ⌝ }
+    ensures { λ r. ⌜ ArcsOf (table setting (now (starts .entry)) (now (ends .entry)) (now (marks .entry))) (now («arc_starts» .exit)) (now («arc_lengths» .exit)) (now (perms .exit)) ⌝ }
 {
     let mut i: usize = 0;
     while i < starts.len() {
-        let start = starts[i];
-        let end = ends[i];
-        arc_starts[i] = start;
-        arc_lengths[i] = window::ticks_in(kind, ticks, start, end);
-        perms[i] = permission(kind, hours, start, end, marks[i]);
+        let row = table::row_at(starts, ends, marks, i);
+        let arc = arc_of(setting, row);
+        arc_starts[i] = arc.start;
+        arc_lengths[i] = arc.length;
+        perms[i] = permission(setting, row);
         i += 1;
     }
 }
@@ -67,9 +92,7 @@ fn set_labels(perms: &[u8], labels: &mut [u8])
 
 // Plans a checked table over lent lists for its arcs and permissions.
 fn plan_lent(
-    kind: Kind,
-    ticks: u16,
-    hours: [[u16; 2]; 2],
+    setting: Setting,
     starts: &[u16],
     ends: &[u16],
     marks: &[u8],
@@ -79,29 +102,16 @@ fn plan_lent(
     arc_lengths: &mut [u16],
     perms: &mut [u8],
 ) -> Answer
-    requires { ⌜ Checked (table kind ticks hours (now starts) (now ends) (now marks)) (now labels) (now space) ⌝ }
-    requires { ⌜ Room (table kind ticks hours (now starts) (now ends) (now marks)) (now «arc_starts») (now «arc_lengths») (now perms) ⌝ }
-    ensures { λ r. ⌜ r ≡ given (bestPlan (table kind ticks hours (now (starts .entry)) (now (ends .entry)) (now (marks .entry)))) (now (labels .entry)) .answer ⌝ }
-    ensures { λ r. ⌜ now (labels .exit) ≡ given (bestPlan (table kind ticks hours (now (starts .entry)) (now (ends .entry)) (now (marks .entry)))) (now (labels .entry)) .labels ⌝ }
-    ensures { λ r. ⌜ drop 4608 (now (space .exit)) ≡ drop 4608 (now (space .entry)) ⌝ }
+    requires { ⌜ Checked (table setting (now starts) (now ends) (now marks)) (now labels) (now space) ⌝ }
+    requires { ⌜ ArcLists (table setting (now starts) (now ends) (now marks)) (now «arc_starts») (now «arc_lengths») (now perms) ⌝ }
+    ensures { λ r. ⌜ answering r (now (labels .exit)) ≡ given (bestPlan (table setting (now (starts .entry)) (now (ends .entry)) (now (marks .entry)))) (now (labels .entry)) ⌝ }
+    ensures { λ r. ⌜ drop coreBytes (now (space .exit)) ≡ drop coreBytes (now (space .entry)) ⌝ }
 {
-    turn(
-        kind,
-        ticks,
-        hours,
-        starts,
-        ends,
-        marks,
-        arc_starts,
-        arc_lengths,
-        perms,
-    );
-    let best = tracks::best_assignment(ticks, arc_starts, arc_lengths, perms, space);
+    set_arcs(setting, starts, ends, marks, arc_starts, arc_lengths, perms);
+    let circle = circle_of(setting);
+    let best = tracks::best_assignment(circle, arc_starts, arc_lengths, perms, space);
     if best == 0 {
-        return Answer {
-            refusal: Refusal::NoPlan,
-            count: 0,
-        };
+        return refusals::refused(Refusal::NoPlan);
     }
     set_labels(perms, labels);
     let count = (best - 1) as usize;
@@ -114,28 +124,23 @@ fn plan_lent(
 // Plans a table that has passed its checks. It leaves open what the first 4,608 bytes of the working space then hold.
 // Arrays held in this crate and in `tracks`, which it calls: 128 + 128 + 64 bytes here and 128 there, 448 in sum.
 pub fn plan_checked(
-    kind: Kind,
-    ticks: u16,
-    hours: [[u16; 2]; 2],
+    setting: Setting,
     starts: &[u16],
     ends: &[u16],
     marks: &[u8],
     labels: &mut [u8],
     space: &mut [u8],
 ) -> Answer
-    requires { ⌜ Checked (table kind ticks hours (now starts) (now ends) (now marks)) (now labels) (now space) ⌝ }
-    ensures { λ r. ⌜ r ≡ given (bestPlan (table kind ticks hours (now (starts .entry)) (now (ends .entry)) (now (marks .entry)))) (now (labels .entry)) .answer ⌝ }
-    ensures { λ r. ⌜ now (labels .exit) ≡ given (bestPlan (table kind ticks hours (now (starts .entry)) (now (ends .entry)) (now (marks .entry)))) (now (labels .entry)) .labels ⌝ }
-    ensures { λ r. ⌜ drop 4608 (now (space .exit)) ≡ drop 4608 (now (space .entry)) ⌝ }
+    requires { ⌜ Checked (table setting (now starts) (now ends) (now marks)) (now labels) (now space) ⌝ }
+    ensures { λ r. ⌜ answering r (now (labels .exit)) ≡ given (bestPlan (table setting (now (starts .entry)) (now (ends .entry)) (now (marks .entry)))) (now (labels .entry)) ⌝ }
+    ensures { λ r. ⌜ drop coreBytes (now (space .exit)) ≡ drop coreBytes (now (space .entry)) ⌝ }
 {
-    let mut arc_starts = [0u16; 64];
-    let mut arc_lengths = [0u16; 64];
-    let mut perms = [0u8; 64];
+    let mut arc_starts = [0u16; MAX_ROWS];
+    let mut arc_lengths = [0u16; MAX_ROWS];
+    let mut perms = [0u8; MAX_ROWS];
     let n = starts.len();
     plan_lent(
-        kind,
-        ticks,
-        hours,
+        setting,
         starts,
         ends,
         marks,
@@ -159,22 +164,18 @@ fn clear_space(space: &mut [u8])
     }
 }
 
-// THE PLANNER. Answer, labels and working space are what the definition `planned` yields, on every input, whatever labels and working space held before.
-// So, spelled out: where all checks before 8 pass, answer and labels are as demand 3 asks.
+// THE PLANNER. What a call gives, answer, labels and working space, is what the definition `planCall` yields, on every input, whatever labels and working space
+// held before. So, spelled out: where all checks before 8 pass, answer and labels are as demand 3 asks.
 pub fn plan(
-    kind: Kind,
-    ticks: u16,
-    hours: [[u16; 2]; 2],
+    setting: Setting,
     starts: &[u16],
     ends: &[u16],
     marks: &[u8],
     labels: &mut [u8],
     space: &mut [u8],
 ) -> Answer
-    ensures answer { λ r. ⌜ r ≡ planned (table kind ticks hours (now (starts .entry)) (now (ends .entry)) (now (marks .entry))) (now (labels .entry)) (length (now (space .entry))) .answer ⌝ }
-    ensures labels { λ r. ⌜ now (labels .exit) ≡ planned (table kind ticks hours (now (starts .entry)) (now (ends .entry)) (now (marks .entry))) (now (labels .entry)) (length (now (space .entry))) .labels ⌝ }
-    ensures space { λ r. ⌜ now (space .exit) ≡ spaceAfter (r .refusal) (now (space .entry)) ⌝ }
-    ensures demand3 { λ r. ⌜ (numberOf (checked (table kind ticks hours (now (starts .entry)) (now (ends .entry)) (now (marks .entry))) (now (labels .entry)) (length (now (space .entry)))) ≡ 0 → Demand3 (table kind ticks hours (now (starts .entry)) (now (ends .entry)) (now (marks .entry))) r (now (labels .exit))) ⌝ }
+    ensures planned { λ r. ⌜ called r (now (labels .exit)) (now (space .exit)) ≡ planCall (table setting (now (starts .entry)) (now (ends .entry)) (now (marks .entry))) (now (labels .entry)) (now (space .entry)) ⌝ }
+    ensures demand3 { λ r. ⌜ (numberOf (checked (table setting (now (starts .entry)) (now (ends .entry)) (now (marks .entry))) (now (labels .entry)) (length (now (space .entry)))) ≡ 0 → Demand3 (table setting (now (starts .entry)) (now (ends .entry)) (now (marks .entry))) r (now (labels .exit))) ⌝ }
 {
     let refusal = table::checks::check_lists(starts.len(), ends.len(), marks.len(), labels.len());
     if refusals::number(refusal) != 0 {
@@ -183,12 +184,12 @@ pub fn plan(
     if space.len() < SPACE_BYTES {
         return refusals::refused(Refusal::Space);
     }
-    let looked = table::checks::check_table(kind, ticks, hours, starts, ends, marks);
+    let looked = table::checks::check_table(setting, starts, ends, marks);
     let refusal2 = looked.refusal;
     if refusals::number(refusal2) != 0 {
         return refusals::refused(refusal2);
     }
-    let answer = plan_checked(kind, ticks, hours, starts, ends, marks, labels, space);
+    let answer = plan_checked(setting, starts, ends, marks, labels, space);
     clear_space(space);
     answer
 }

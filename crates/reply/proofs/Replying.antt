@@ -13,18 +13,18 @@ use Rattle.basics.specs.Lists.{at, Put}
 use Rattle.labels.proofs.Heard.{heard-le}
 use Rattle.refusals.specs.declared.Refusal.{Refusal}
 use Rattle.refusals.specs.declared.Refusal.the-variants.{Lists, Rows, Form}
-use Rattle.refusals.specs.declared.Answer.{Answer}
-use Rattle.refusals.specs.Refusals.{numberOf, answered}
-use Rattle.table.specs.Tables.{Table, table}
+use Rattle.refusals.specs.Refusals.{numberOf}
+use Rattle.table.specs.declared.Setting.{Setting}
+use Rattle.table.specs.Tables.{settingOf, Table, table}
 use Rattle.table.specs.Planned.{checked, bestPlan, Planned, given, planned, spaceAfter}
 use Rattle.refusals.proofs.Refusals.{Passed, number-below}
 use Rattle.table.proofs.Checked.{checked-valid}
-use Rattle.table.proofs.Rivals.{best-plan, planned-passed}
+use Rattle.table.proofs.Rivals.{best-plan, planned-passed, planned-refused}
 use Rattle.fleet_tape.specs.Form.{Fleet, fleetOf}
 use Rattle.fleet_tape.specs.Reading.{Reading, reading, refused, taken, judged, hasPlaces, fleetRead}
 use Rattle.reply.specs.Lines.{heardWord, refusedWord, wordLine, rowLine, rowLines, printed}
-use Rattle.reply.specs.Replied.{places, refusedWith, readAnswer, tapeAnswer, Replied, replying, repliedWith, replied, Within}
-use Rattle.reply.specs.Room.{answerOf, Answerable, Lent}
+use Rattle.reply.specs.Replied.{places, refusedWith, readAnswer, tapeAnswer, Replied, replying, repliedWith, replied, InFront}
+use Rattle.reply.specs.Room.{Answerable, FreshLists}
 use Rattle.basics.proofs.Puts.{put-front}
 use Rattle.reply.proofs.Putting.{word-length, row-length}
 
@@ -76,10 +76,6 @@ module _ (t : Table) (before : List ℕ) (space : ℕ) (out : List ℕ) (room : 
         fits = room;
       }
 
-  planned-refused : (numberOf (checked t before space) ≡ 0 → ⊥) → planned t before space ≡ record { answer = answered (checked t before space) 0; labels = before }
-  unfolding planned
-  planned-refused n = rw (ne-eqb (numberOf (checked t before space)) 0 n) refl
-
   -- what the planner answers has room
   pub planned-answerable : Answerable (planned t before space) out
   planned-answerable = go (eqb (numberOf (checked t before space)) 0) refl
@@ -90,10 +86,7 @@ module _ (t : Table) (before : List ℕ) (space : ℕ) (out : List ℕ) (room : 
           rw (planned-passed t before space p) (given-answerable (bestPlan t) refl p)
       go false e =
           let n = eqb-false (numberOf (checked t before space)) 0 e in
-          rw (planned-refused n) (record { count = λ z. absurd (n z); labels = λ z. absurd (n z); fits = room })
-
-pub answer-is : (p : Planned) {answer : Answer} {labels : List ℕ} → answer ≡ p .answer → labels ≡ p .labels → answerOf answer labels ≡ p
-answer-is p e f = λ i. answerOf (e i) (f i)
+          rw (planned-refused t before space n) (record { count = λ z. absurd (n z); labels = λ z. absurd (n z); fits = room })
 
 -- ---- the reply
 
@@ -148,7 +141,7 @@ module _ (tape : List ℕ) where
       go true = judged-sound (fleetOf tape)
       go false = record { not-8 = λ e. omega arith; few = omega arith }
 
-  module _ {starts ends marks labels out : List ℕ} (l : Lent starts ends marks labels out) {r : Reading} (e : r ≡ fleetRead tape starts ends marks) where
+  module _ {starts ends marks labels out : List ℕ} (l : FreshLists starts ends marks labels out) {r : Reading} (e : r ≡ fleetRead tape starts ends marks) where
     -- the lists as they are lent
     read-places : r ≡ fleetRead tape places places places
     read-places = e ∙ (λ i. fleetRead tape (l .starts-are i) (l .ends-are i) (l .marks-are i))
@@ -170,8 +163,8 @@ module _ (tape : List ℕ) where
         ∙ sym (rw (← read-places, ne-eqb (numberOf (r .report .refusal)) 0 n) refl)
 
     -- the reader accepts
-    pub reader-accepted : (space : List ℕ) → numberOf (r .report .refusal) ≡ 0 → {hours : List (List ℕ)} → hours ≡ r .report .hours
-        → repliedWith (planned (table (r .report .kind) (r .report .ticks) hours (take (r .report .rows) (r .starts)) (take (r .report .rows) (r .ends)) (take (r .report .rows) (r .marks))) (take (r .report .rows) labels) (length space)) out space
+    pub reader-accepted : (space : List ℕ) → numberOf (r .report .refusal) ≡ 0 → {S : Setting} → S ≡ settingOf (r .report .kind) (r .report .ticks) (r .report .hours)
+        → repliedWith (planned (table S (take (r .report .rows) (r .starts)) (take (r .report .rows) (r .ends)) (take (r .report .rows) (r .marks))) (take (r .report .rows) labels) (length space)) out space
         ≡ repliedWith (readAnswer (fleetRead tape places places places) (length space)) out space
     unfolding readAnswer
     reader-accepted space z h = rw (h, l .labels-are) (sym (rw (← read-places, eq-eqb (numberOf (r .report .refusal)) 0 z) refl))
@@ -192,7 +185,7 @@ module _ (tape out space : List ℕ) where
   tape-read h k = sym (rw (le-leb 400 (length out) h, le-leb (length tape) 400 k) refl)
 
   -- the length returned lies within the output
-  pub replied-within : {r : ℕ} {after space′ : List ℕ} → replying r after space′ ≡ replied tape out space → Within r after
+  pub replied-within : {r : ℕ} {after space′ : List ℕ} → replying r after space′ ≡ replied tape out space → InFront r after
   unfolding replied repliedWith
   replied-within {r} {after} e = (h, sym (length-take-le r after h))
     where

@@ -3,11 +3,11 @@ use Prim.Native.Nat.{ℕ, _+_, _*_, _≤_, _<_}
 use mathlib.Core.Path.{_≡_}
 use mathlib.Core.List.{List}
 use lib.ListN.{length}
+use Rattle.basics.specs.Limits.{maxRows}
 use Rattle.basics.specs.Lists.{at}
-use Rattle.refusals.specs.declared.Answer.{Answer}
 use Rattle.refusals.specs.Refusals.{numberOf}
 use Rattle.table.specs.Planned.{Planned}
-use Rattle.reply.specs.Replied.{places}
+use Rattle.reply.specs.Replied.{places, outBytes}
 
 -- so many bytes fit from a place on
 pub record Room (out : List ℕ) (place bytes : ℕ) : Type 0 where
@@ -26,7 +26,7 @@ pub record RowRoom (row label : ℕ) (out : List ℕ) (place : ℕ) : Type 0 whe
 
 -- at most 64 labels of at most two digits
 pub record Labels (labels : List ℕ) : Type 0 where
-  pub few : length labels ≤ 64
+  pub few : length labels ≤ maxRows
   pub small : (i : ℕ) → i < length labels → at labels i < 100
 
 -- and room for their lines
@@ -38,21 +38,18 @@ pub record LabelsRoom (labels out : List ℕ) (place : ℕ) : Type 0 where
 pub record WordRoom (word : List ℕ) (n : ℕ) (out : List ℕ) : Type 0 where
   pub short : length word ≤ 8
   pub small : n < 100
-  pub fits : 400 ≤ length out
-
-abbrev pub answerOf : Answer → List ℕ → Planned
-answerOf answer labels = record { answer = answer; labels = labels }
+  pub fits : outBytes ≤ length out
 
 -- an answer whose lines have room in 400 bytes
 pub record Answerable (p : Planned) (out : List ℕ) : Type 0 where
   pub count : numberOf (p .answer .refusal) ≡ 0 → p .answer .count < 100
   pub labels : numberOf (p .answer .refusal) ≡ 0 → Labels (p .labels)
-  pub fits : 400 ≤ length out
+  pub fits : outBytes ≤ length out
 
 -- the lists of 64 places, as they are first lent, and room
-pub record Lent (starts ends marks labels out : List ℕ) : Type 0 where
+pub record FreshLists (starts ends marks labels out : List ℕ) : Type 0 where
   pub starts-are : starts ≡ places
   pub ends-are : ends ≡ places
   pub marks-are : marks ≡ places
   pub labels-are : labels ≡ places
-  pub fits : 400 ≤ length out
+  pub fits : outBytes ≤ length out

@@ -4,15 +4,16 @@ ghost use Prim.Native.Nat.{_+_, _<_};
 ghost use lib.ListN.{length};
 ghost use Rattle.refusals.specs.Refusals.{numberOf};
 ghost use Rattle.table.specs.Tables.{table};
-ghost use Rattle.table.specs.Planned.{planned};
+ghost use Rattle.table.specs.Planned.{answering, planned};
 ghost use Rattle.fleet_tape.specs.Reading.{fleetRead};
 ghost use Rattle.reply.specs.Lines.{decimal, wordLine, rowLine, rowLines, refusedWord, printed};
-ghost use Rattle.reply.specs.Replied.{places, readAnswer, replying, repliedWith, replied, Within};
+ghost use Rattle.reply.specs.Replied.{places, readAnswer, replying, repliedWith, replied, InFront, outBytes};
 ghost use Rattle.basics.specs.Lists.{Put};
-ghost use Rattle.reply.specs.Room.{Room, NumberRoom, RowRoom, LabelsRoom, WordRoom, answerOf, Answerable, Lent};
+ghost use Rattle.reply.specs.Room.{Room, NumberRoom, RowRoom, LabelsRoom, WordRoom, Answerable, FreshLists};
+use basics::MAX_ROWS;
 use refusals::Answer;
 use refusals::Refusal;
-use window::Kind;
+use table::Setting;
 
 // The output that a call needs, in bytes; the longest reply has 319.
 pub const OUT_BYTES: usize = 400;
@@ -97,7 +98,7 @@ fn put_word(out: &mut [u8], word: &[u8], n: usize) -> usize
 
 // Puts the line of a refusal at the front.
 fn put_refused(out: &mut [u8], refusal: Refusal) -> usize
-    requires { ⌜ Room (now out) 0 400 ⌝ }
+    requires { ⌜ Room (now out) 0 outBytes ⌝ }
     ensures { λ r. ⌜ Put (now (out .entry)) 0 (wordLine refusedWord (numberOf refusal)) (now (out .exit)) r ⌝ }
 {
     put_word(out, b"refused", basics::wide(refusals::number(refusal)))
@@ -105,8 +106,8 @@ fn put_refused(out: &mut [u8], refusal: Refusal) -> usize
 
 // Puts the lines of a planner's answer at the front.
 fn put_answer(out: &mut [u8], answer: Answer, labels: &[u8]) -> usize
-    requires { ⌜ Answerable (answerOf answer (now labels)) (now out) ⌝ }
-    ensures { λ r. ⌜ Put (now (out .entry)) 0 (printed (answerOf answer (now (labels .entry)))) (now (out .exit)) r ⌝ }
+    requires { ⌜ Answerable (answering answer (now labels)) (now out) ⌝ }
+    ensures { λ r. ⌜ Put (now (out .entry)) 0 (printed (answering answer (now (labels .entry)))) (now (out .exit)) r ⌝ }
 {
     let refusal = answer.refusal;
     if refusals::number(refusal) != 0 {
@@ -118,9 +119,7 @@ fn put_answer(out: &mut [u8], answer: Answer, labels: &[u8]) -> usize
 
 // The reply to a table, whose labels are lent.
 fn reply_table(
-    kind: Kind,
-    ticks: u16,
-    hours: [[u16; 2]; 2],
+    setting: Setting,
     starts: &[u16],
     ends: &[u16],
     marks: &[u8],
@@ -128,10 +127,10 @@ fn reply_table(
     out: &mut [u8],
     space: &mut [u8],
 ) -> usize
-    requires { ⌜ Room (now out) 0 400 ⌝ }
-    ensures { λ r. ⌜ replying r (now (out .exit)) (now (space .exit)) ≡ repliedWith (planned (table kind ticks hours (now (starts .entry)) (now (ends .entry)) (now (marks .entry))) (now (labels .entry)) (length (now (space .entry)))) (now (out .entry)) (now (space .entry)) ⌝ }
+    requires { ⌜ Room (now out) 0 outBytes ⌝ }
+    ensures { λ r. ⌜ replying r (now (out .exit)) (now (space .exit)) ≡ repliedWith (planned (table setting (now (starts .entry)) (now (ends .entry)) (now (marks .entry))) (now (labels .entry)) (length (now (space .entry)))) (now (out .entry)) (now (space .entry)) ⌝ }
 {
-    let answer = planner::plan(kind, ticks, hours, starts, ends, marks, labels, space);
+    let answer = planner::plan(setting, starts, ends, marks, labels, space);
     put_answer(out, answer, labels)
 }
 
@@ -145,7 +144,7 @@ fn reply_lent(
     marks: &mut [u8],
     labels: &mut [u8],
 ) -> usize
-    requires { ⌜ Lent (now starts) (now ends) (now marks) (now labels) (now out) ⌝ }
+    requires { ⌜ FreshLists (now starts) (now ends) (now marks) (now labels) (now out) ⌝ }
     ensures { λ r. ⌜ replying r (now (out .exit)) (now (space .exit)) ≡ repliedWith (readAnswer (fleetRead (now (tape .entry)) places places places) (length (now (space .entry)))) (now (out .entry)) (now (space .entry)) ⌝ }
 {
     let report = fleet_tape::read_fleet(tape, starts, ends, marks);
@@ -156,10 +155,9 @@ fn reply_lent(
     let kind = report.kind;
     let rows = report.rows;
     let hours = fleet_tape::hours_in(report);
+    let setting = table::setting_of(kind, report.ticks, hours);
     reply_table(
-        kind,
-        report.ticks,
-        hours,
+        setting,
         &starts[..rows],
         &ends[..rows],
         &marks[..rows],
@@ -173,7 +171,7 @@ fn reply_lent(
 // definition `replied` yields, on every input. That the length lies within the output follows; it is said so that a caller can lend `&out[..n]`.
 pub fn reply(tape: &[u8], out: &mut [u8], space: &mut [u8]) -> usize
     ensures replied { λ r. ⌜ replying r (now (out .exit)) (now (space .exit)) ≡ replied (now (tape .entry)) (now (out .entry)) (now (space .entry)) ⌝ }
-    ensures within { λ r. ⌜ Within r (now (out .exit)) ⌝ }
+    ensures within { λ r. ⌜ InFront r (now (out .exit)) ⌝ }
 {
     if out.len() < OUT_BYTES {
         return 0;
@@ -181,10 +179,10 @@ pub fn reply(tape: &[u8], out: &mut [u8], space: &mut [u8]) -> usize
     if TAPE_BYTES < tape.len() {
         return put_refused(out, Refusal::Form);
     }
-    let mut starts = [0u16; 64];
-    let mut ends = [0u16; 64];
-    let mut marks = [0u8; 64];
-    let mut labels = [0u8; 64];
+    let mut starts = [0u16; MAX_ROWS];
+    let mut ends = [0u16; MAX_ROWS];
+    let mut marks = [0u8; MAX_ROWS];
+    let mut labels = [0u8; MAX_ROWS];
     reply_lent(
         tape,
         out,

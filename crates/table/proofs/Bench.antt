@@ -4,21 +4,14 @@ use mathlib.Core.Path.{_≡_, refl}
 use mathlib.Core.List.{List, [], _∷_, map}
 use Rattle.window.specs.declared.Kind.{Kind}
 use Rattle.window.specs.declared.Kind.the-variants.{Round, Run}
+use Rattle.window.specs.declared.Row.{Row}
+use Rattle.window.specs.Rows.{row}
 use Rattle.window.specs.Hours.{hoursFrom, noHours}
 use Rattle.refusals.specs.declared.Refusal.{Refusal}
 use Rattle.refusals.specs.declared.Refusal.the-variants.{Accepted, Mark, NoPlan}
 use Rattle.refusals.specs.Refusals.{answered}
-use Rattle.table.specs.Tables.{Table, table}
-use Rattle.table.specs.Planned.{Planned, planned}
-
--- a row as it stands in paper 01: start–end, and its mark
-record Row : Type 0 where
-  start : ℕ
-  end : ℕ
-  mark : ℕ
-
-row : ℕ → ℕ → ℕ → Row
-row s e m = record { start = s; end = e; mark = m }
+use Rattle.table.specs.Tables.{settingOf, Table, tableOf}
+use Rattle.table.specs.Planned.{Planned, answering, planned}
 
 -- a call: the table, the labels before it, and what it gives
 pub record Case : Type 0 where
@@ -33,7 +26,7 @@ nines rows = map (λ r. 9) rows
 on : Kind → ℕ → List (List ℕ) → List Row → Planned → Case
 on kind R hours rows gives =
     record {
-      lent = table kind R hours (map (λ r. r .start) rows) (map (λ r. r .end) rows) (map (λ r. r .mark) rows);
+      lent = tableOf (settingOf kind R hours) rows;
       before = nines rows;
       gives = gives;
     }
@@ -45,10 +38,10 @@ run : ℕ → List (List ℕ) → List Row → Planned → Case
 run = on Run
 
 plan : ℕ → List ℕ → Planned
-plan count labels = record { answer = answered Accepted count; labels = labels }
+plan count labels = answering (answered Accepted count) labels
 
 refused : Refusal → List Row → Planned
-refused r rows = record { answer = answered r 0; labels = nines rows }
+refused r rows = answering (answered r 0) (nines rows)
 
 p2 : ℕ → ℕ → ℕ → List Row
 p2 a b c = row 10 30 a ∷ row 20 40 b ∷ row 25 50 c ∷ row 90 10 0 ∷ []
@@ -87,5 +80,5 @@ Holds [] = Unit {0}
 Holds (c ∷ cs) = (planned (c .lent) (c .before) 16384 ≡ c .gives) × Holds cs
 
 pub bench : Holds cases
-unfolding planned cases on round run plan refused nines row p2 p5 p9-hours p9 p12
+unfolding planned cases on round run plan refused nines p2 p5 p9-hours p9 p12
 bench = (refl, (refl, (refl, (refl, (refl, (refl, (refl, (refl, (refl, (refl, (refl, (refl, tt))))))))))))

@@ -9,37 +9,42 @@ use native.Mathlib.Nat.{eq-or-lt-of-le}
 use lib.Dec.{leb, eqb}
 use lib.ListN.{length}
 use borrow.Author.Tests.{eqb-true, eqb-false, leb-true}
-use Rattle.basics.specs.Lists.{at}
 use Rattle.basics.proofs.Tests.{leb-iff, eqb-iff, and-iff}
 use Rattle.window.specs.declared.Kind.{Kind}
 use Rattle.window.specs.declared.Kind.the-variants.{Round, Run}
+use Rattle.window.specs.declared.Row.{Row}
 use Rattle.window.specs.Windows.{isWindow}
 use Rattle.window.proofs.Meaning.{window-iff}
 use Rattle.refusals.specs.declared.Refusal.{Refusal}
 use Rattle.refusals.specs.declared.Refusal.the-variants.{Lists, Rows, Space, Ticks, Window, Mark}
-use Rattle.table.specs.declared.Looked.{Looked}
 use Rattle.refusals.specs.Refusals.{numberOf, asked, passes, _then_}
 use Rattle.refusals.proofs.Refusals.{Passed, then-passed, asked-passed, then-either, asked-either}
-use Rattle.table.specs.Tables.{Table, rows, isEven, Valid}
-use Rattle.table.specs.Checks.{listsRefusal, ticksRefusal, isHours, hoursRefusal, rowRefusal, lookFrom, rowsLooked, settingRefusal, tableLooked}
+use Rattle.table.specs.declared.Setting.{Setting}
+use Rattle.table.specs.declared.Looked.{Looked}
+use Rattle.table.specs.Tables.{Table, rows, rowAt, isEven, ValidSetting, ValidRow, Valid}
+use Rattle.table.specs.Checks.{lengthsRefusal, listsRefusal, ticksRefusal, isHours, hoursRefusal, settingRefusal, rowRefusal, looked, lookFrom, rowCheck, rowsLooked, tableLooked}
 use Rattle.table.specs.Planned.{spaceBytes, spaceRefusal, checked}
 
 cond-passed : (x : Bool) (a b : Looked) → 1 ≤ numberOf (b .refusal) → Passed (cond x a b .refusal) → (x ≡ true) × Passed (a .refusal)
 cond-passed true a b h p = (refl, p)
 cond-passed false a b h p = absurd (omega arith)
 
-pub lists-passed : (n e m l : ℕ) → Passed (listsRefusal n e m l) → ((e ≡ n) × (m ≡ n) × (l ≡ n)) × (n ≤ 64)
-unfolding listsRefusal
-lists-passed n e m l p =
+pub lists-passed : (t : Table) (labels : List ℕ) → Passed (listsRefusal t labels) → ((length (t .ends) ≡ rows t) × (length (t .marks) ≡ rows t) × (length labels ≡ rows t)) × (rows t ≤ 64)
+unfolding lengthsRefusal
+lists-passed t labels p =
+    let n = rows t in
+    let e = length (t .ends) in
+    let m = length (t .marks) in
+    let l = length labels in
     let f = then-passed (asked (eqb e n && eqb m n && eqb l n) Lists) (asked (leb n 64) Rows) p in
     let s = and-iff (and-iff (eqb-iff e n) (eqb-iff m n)) (eqb-iff l n) .0 (asked-passed (eqb e n && eqb m n && eqb l n) Lists (omega arith) (f .0)) in
     ((s .0 .0, s .0 .1, s .1), leb-true n 64 (asked-passed (leb n 64) Rows (omega arith) (f .1)))
 
 -- a check r before the others, as `cond` has it
-then-looked : (r : Refusal) (n : ℕ) (rest : Looked) → Passed (cond (passes r) rest (record { refusal = r; rows = n }) .refusal) → Passed r × Passed (rest .refusal)
+then-looked : (r : Refusal) (n : ℕ) (rest : Looked) → Passed (cond (passes r) rest (looked r n) .refusal) → Passed r × Passed (rest .refusal)
 then-looked r n rest = go (passes r) refl
   where
-    go : (x : Bool) → passes r ≡ x → Passed (cond x rest (record { refusal = r; rows = n }) .refusal) → Passed r × Passed (rest .refusal)
+    go : (x : Bool) → passes r ≡ x → Passed (cond x rest (looked r n) .refusal) → Passed r × Passed (rest .refusal)
     go true e p = (eqb-true (numberOf r) 0 e, p)
     go false e p = absurd (eqb-false (numberOf r) 0 e p)
 
@@ -52,56 +57,53 @@ looked-passed check i (suc n) p k h l =
     let rest = looked-passed check (i + 1) n (f .1) k in
     ⊎-elim (λ q. rw (← q) (f .0)) (λ q. rest (omega arith) (omega arith)) (eq-or-lt-of-le h)
 
-ticks-passed : (R : ℕ) → Passed (ticksRefusal R) → (2 ≤ R) × (R ≤ 43200)
-unfolding ticksRefusal
-ticks-passed R p = and-iff (leb-iff 2 R) (leb-iff R 43200) .0 (asked-passed (leb 2 R && leb R 43200) Ticks (omega arith) p)
+module _ (S : Setting) where
+  setting-passed : Passed (settingRefusal S) → ValidSetting S
+  unfolding settingRefusal ticksRefusal
+  setting-passed p =
+      let ticks = leb 2 (S .ticks) && leb (S .ticks) 43200 in
+      let f = then-passed (asked ticks Ticks) (hoursRefusal (S .kind) (S .ticks) (S .hours)) p in
+      let h = and-iff (leb-iff 2 (S .ticks)) (leb-iff (S .ticks) 43200) .0 (asked-passed ticks Ticks (omega arith) (f .0)) in
+      record { ticks-least = h .0; ticks-most = h .1 }
+
+  row-passed : (row : Row) → Passed (rowRefusal S row) → ValidRow S row
+  unfolding rowRefusal
+  row-passed row p =
+      let w = isWindow (S .kind) (S .ticks) (row .start) (row .end) in
+      let m = leb (row .mark) 1 in
+      let f = then-passed (asked w Window) (asked m Mark) p in
+      record {
+        window = window-iff (S .kind) (S .ticks) (row .start) (row .end) .0 (asked-passed w Window (omega arith) (f .0));
+        mark = leb-true (row .mark) 1 (asked-passed m Mark (omega arith) (f .1));
+      }
 
 module _ (t : Table) where
-  abbrev rowCheck : ℕ → Refusal
-  rowCheck i = rowRefusal (t .kind) (t .ticks) (at (t .starts) i) (at (t .ends) i) (at (t .marks) i)
-
-  row-passed : (i : ℕ) → Passed (rowCheck i) → (isWindow (t .kind) (t .ticks) (at (t .starts) i) (at (t .ends) i) ≡ true) × (at (t .marks) i ≤ 1)
-  unfolding rowRefusal
-  row-passed i p =
-      let w = isWindow (t .kind) (t .ticks) (at (t .starts) i) (at (t .ends) i) in
-      let m = leb (at (t .marks) i) 1 in
-      let f = then-passed (asked w Window) (asked m Mark) p in
-      (asked-passed w Window (omega arith) (f .0), leb-true (at (t .marks) i) 1 (asked-passed m Mark (omega arith) (f .1)))
-
-  rows-passed : Passed (rowsLooked (t .kind) (t .ticks) (t .starts) (t .ends) (t .marks) .refusal)
-      → ((length (t .ends) ≡ rows t) × (length (t .marks) ≡ rows t)) × ((i : ℕ) → i < rows t → Passed (rowCheck i))
+  rows-passed : Passed (rowsLooked t .refusal) → ((length (t .ends) ≡ rows t) × (length (t .marks) ≡ rows t)) × ((i : ℕ) → i < rows t → Passed (rowCheck t i))
   unfolding rowsLooked
   rows-passed p =
-      let f = cond-passed _ _ (record { refusal = Lists; rows = 0 }) (omega arith) p in (
+      let f = cond-passed (isEven t) (lookFrom (rowCheck t) 0 (rows t)) (looked Lists 0) (omega arith) p in (
         and-iff (eqb-iff (length (t .ends)) (rows t)) (eqb-iff (length (t .marks)) (rows t)) .0 (f .0),
-        λ i h. looked-passed rowCheck 0 (rows t) (f .1) i (omega arith) (omega arith),
+        λ i h. looked-passed (rowCheck t) 0 (rows t) (f .1) i (omega arith) (omega arith),
       )
-
-  setting-passed : Passed (settingRefusal (t .kind) (t .ticks) (t .hours)) → Passed (ticksRefusal (t .ticks))
-  unfolding settingRefusal
-  setting-passed p = then-passed (ticksRefusal (t .ticks)) (hoursRefusal (t .kind) (t .ticks) (t .hours)) p .0
 
   pub table-passed : Passed (tableLooked t .refusal) → rows t ≤ 64 → Valid t
   unfolding tableLooked
   table-passed p few =
-      let f = then-looked (settingRefusal (t .kind) (t .ticks) (t .hours)) 0 _ p in
-      let ticks = ticks-passed (t .ticks) (setting-passed (f .0)) in
+      let f = then-looked (settingRefusal (t .setting)) 0 (rowsLooked t) p in
       let r = rows-passed (f .1) in
       record {
         few = few;
         each-end = r .0 .0;
         each-mark = r .0 .1;
-        ticks-least = ticks .0;
-        ticks-most = ticks .1;
-        window = λ i h. window-iff (t .kind) (t .ticks) (at (t .starts) i) (at (t .ends) i) .0 (row-passed i (r .1 i h) .0);
-        mark = λ i h. row-passed i (r .1 i h) .1;
+        setting = setting-passed (t .setting) (f .0);
+        row = λ i h. row-passed (t .setting) (rowAt t i) (r .1 i h);
       }
 
   pub checked-valid : (labels : List ℕ) (space : ℕ) → Passed (checked t labels space) → Valid t × (length labels ≡ rows t)
   unfolding checked
   checked-valid labels space p =
-      let f = then-passed (listsRefusal (rows t) (length (t .ends)) (length (t .marks)) (length labels)) (spaceRefusal space then tableLooked t .refusal) p in
-      let l = lists-passed (rows t) (length (t .ends)) (length (t .marks)) (length labels) (f .0) in
+      let f = then-passed (listsRefusal t labels) (spaceRefusal space then tableLooked t .refusal) p in
+      let l = lists-passed t labels (f .0) in
       (table-passed (then-passed (spaceRefusal space) (tableLooked t .refusal) (f .1) .1) (l .1), l .0 .2)
 
 -- ---- no check before 8 gives 8
@@ -127,30 +129,35 @@ unfolding hoursRefusal
 hours-8 Round R hours = record { not = λ e. omega arith }
 hours-8 Run R hours = asked-8 (isHours hours R 0 && isHours hours R 1) (record { not = λ e. omega arith })
 
+setting-8 : (S : Setting) → Not8 (settingRefusal S)
+unfolding settingRefusal ticksRefusal
+setting-8 S = then-either Not8 (asked-8 (leb 2 (S .ticks) && leb (S .ticks) 43200) {r = Ticks} (record { not = λ e. omega arith })) (hours-8 (S .kind) (S .ticks) (S .hours))
+
+row-8 : (S : Setting) (row : Row) → Not8 (rowRefusal S row)
+unfolding rowRefusal
+row-8 S row =
+    then-either Not8
+    (asked-8 (isWindow (S .kind) (S .ticks) (row .start) (row .end)) {r = Window} (record { not = λ e. omega arith }))
+    (asked-8 (leb (row .mark) 1) {r = Mark} (record { not = λ e. omega arith }))
+
 module _ (t : Table) where
-  row-8 : (i : ℕ) → Not8 (rowCheck t i)
-  unfolding rowRefusal
-  row-8 i = then-either Not8 (asked-8 (isWindow (t .kind) (t .ticks) (at (t .starts) i) (at (t .ends) i)) {r = Window} (record { not = λ e. omega arith })) (asked-8 (leb (at (t .marks) i) 1) {r = Mark} (record { not = λ e. omega arith }))
-
-  setting-8 : Not8 (settingRefusal (t .kind) (t .ticks) (t .hours))
-  unfolding settingRefusal ticksRefusal
-  setting-8 = then-either Not8 (asked-8 (leb 2 (t .ticks) && leb (t .ticks) 43200) {r = Ticks} (record { not = λ e. omega arith })) (hours-8 (t .kind) (t .ticks) (t .hours))
-
-  rows-8 : Not8 (rowsLooked (t .kind) (t .ticks) (t .starts) (t .ends) (t .marks) .refusal)
+  rows-8 : Not8 (rowsLooked t .refusal)
   unfolding rowsLooked
-  rows-8 = cond-8 (isEven (t .starts) (t .ends) (t .marks)) _ (record { refusal = Lists; rows = 0 }) (look-8 (rowCheck t) row-8 0 (rows t)) (record { not = λ e. omega arith })
+  rows-8 = cond-8 (isEven t) _ (looked Lists 0) (look-8 (rowCheck t) (λ i. row-8 (t .setting) (rowAt t i)) 0 (rows t)) (record { not = λ e. omega arith })
 
   table-8 : Not8 (tableLooked t .refusal)
   unfolding tableLooked
-  table-8 =
-      let setting = settingRefusal (t .kind) (t .ticks) (t .hours) in
-      cond-8 (passes setting) (rowsLooked (t .kind) (t .ticks) (t .starts) (t .ends) (t .marks)) (record { refusal = setting; rows = 0 }) rows-8 setting-8
+  table-8 = cond-8 (passes (settingRefusal (t .setting))) (rowsLooked t) (looked (settingRefusal (t .setting)) 0) rows-8 (setting-8 (t .setting))
+
+  lists-8 : (labels : List ℕ) → Not8 (listsRefusal t labels)
+  unfolding lengthsRefusal
+  lists-8 labels =
+      then-either Not8
+      (asked-8 (eqb (length (t .ends)) (rows t) && eqb (length (t .marks)) (rows t) && eqb (length labels) (rows t)) {r = Lists} (record { not = λ e. omega arith }))
+      (asked-8 (leb (rows t) 64) {r = Rows} (record { not = λ e. omega arith }))
 
   pub checked-8 : (labels : List ℕ) (space : ℕ) → Not8 (checked t labels space)
-  unfolding checked listsRefusal spaceRefusal
+  unfolding checked spaceRefusal
   checked-8 labels space =
-      then-either Not8
-      (then-either Not8
-      (asked-8 (eqb (length (t .ends)) (rows t) && eqb (length (t .marks)) (rows t) && eqb (length labels) (rows t)) {r = Lists} (record { not = λ e. omega arith }))
-      (asked-8 (leb (rows t) 64) {r = Rows} (record { not = λ e. omega arith })))
+      then-either Not8 (lists-8 labels)
       (then-either Not8 (asked-8 (leb spaceBytes space) {r = Space} (record { not = λ e. omega arith })) table-8)

@@ -5,3 +5,4 @@ pub mod Testing
 pub mod Plans
 pub mod Checked
 pub mod Rivals
+pub mod Calls

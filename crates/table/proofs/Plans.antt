@@ -1,71 +1,84 @@
--- The test for a plan says what a plan is, for tables that pass their checks, run and round together.
+-- The test for a plan says whether labels are one, for tables that pass their checks. Run and round together.
 use Prim.Native.Nat.{ℕ, zero, suc, _≤_, _<_}
-use mathlib.Core.Path.{_≡_, refl, sym, _∙_}
+use mathlib.Core.Path.{_≡_, refl, sym, subst, _∙_}
 use mathlib.Core.Logic.{_≢_, _↔_}
 use mathlib.Core.Bool.{Bool, true}
 use mathlib.Core.List.{List}
-use native.Mathlib.Omega.{arith}
 use native.Mathlib.Decide.{decLe}
+use native.Mathlib.Omega.{arith}
 use lib.ListN.{length}
 use Rattle.basics.specs.Lists.{at}
-use Rattle.basics.proofs.Tests.{leb-iff, eqb-iff, not-iff, and-iff, imp-iff, every-iff}
+use Rattle.basics.proofs.Tests.{leb-iff, eqb-iff, and-iff, not-iff, imp-iff, every-iff}
 use Rattle.window.specs.declared.Kind.{Kind}
 use Rattle.window.specs.declared.Kind.the-variants.{Round, Run}
-use Rattle.window.proofs.Meaning.{overlaps-iff}
-use Rattle.table.specs.Tables.{Table, rows, Open, Allowed, Clash, Plan, Valid, isOpen, isAllowed, isApart, isFit, isPlan}
+use Rattle.window.specs.declared.Row.{Row}
 use Rattle.window.specs.Hours.{hour}
+use Rattle.window.specs.Windows.{overlaps}
+use Rattle.window.proofs.Meaning.{overlaps-iff, overlaps-start}
+use Rattle.table.specs.declared.Setting.{Setting}
+use Rattle.table.specs.Tables.{Table, rows, rowAt, Open, Allowed, Clash, Plan, ValidRow, Valid, isOpen, isAllowed, clashes, isApart, isFit, isPlan}
 
-open-iff : (kind : Kind) (hours : List (List ℕ)) (x s e : ℕ) → (isOpen kind hours x s e ≡ true) ↔ Open kind hours x s e
-open-iff Round hours x s e = (λ h. tt, λ h. refl)
-open-iff Run hours zero s e = (λ h. tt, λ h. refl)
-open-iff Run hours (suc r) s e = and-iff (leb-iff (hour hours r 0) s) (leb-iff e (hour hours r 1))
+open-iff : (kind : Kind) (hours : List (List ℕ)) (row : Row) (x : ℕ) → (isOpen kind hours row x ≡ true) ↔ Open kind hours row x
+open-iff Round hours row x = (λ h. tt, λ h. refl)
+open-iff Run hours row zero = (λ h. tt, λ h. refl)
+open-iff Run hours row (suc r) = and-iff (leb-iff (hour hours r 0) (row .start)) (leb-iff (row .end) (hour hours r 1))
 
-pub allowed-iff : (t : Table) (i x : ℕ) → (isAllowed (t .kind) (t .hours) (at (t .starts) i) (at (t .ends) i) (at (t .marks) i) x ≡ true) ↔ Allowed t i x
-unfolding isAllowed
-allowed-iff t i x = (
-  λ e. let f = clauses .0 e in record { known = f .0 .0; must = f .0 .1; hours = f .1 },
-  λ a. clauses .1 ((a .known, a .must), a .hours),
-)
-  where
-    clauses : (isAllowed (t .kind) (t .hours) (at (t .starts) i) (at (t .ends) i) (at (t .marks) i) x ≡ true)
-        ↔ (((x ≤ 2) × (at (t .marks) i ≡ 1 → x ≢ 0)) × Open (t .kind) (t .hours) x (at (t .starts) i) (at (t .ends) i))
-    clauses =
-        and-iff
-        (and-iff (leb-iff x 2) (imp-iff (eqb-iff (at (t .marks) i) 1) (not-iff (eqb-iff x 0))))
-        (open-iff (t .kind) (t .hours) x (at (t .starts) i) (at (t .ends) i))
+module _ (S : Setting) (row : Row) where
+  pub allowed-iff : (x : ℕ) → (isAllowed S row x ≡ true) ↔ Allowed S row x
+  unfolding isAllowed
+  allowed-iff x = (
+    λ e. let f = clauses .0 e in record { known = f .0 .0; must = f .0 .1; hours = f .1 },
+    λ a. clauses .1 ((a .known, a .must), a .hours),
+  )
+    where
+      clauses : (isAllowed S row x ≡ true) ↔ (((x ≤ 2) × (row .mark ≡ 1 → x ≢ 0)) × Open (S .kind) (S .hours) row x)
+      clauses =
+          and-iff
+          (and-iff (leb-iff x 2) (imp-iff (eqb-iff (row .mark) 1) (not-iff (eqb-iff x 0))))
+          (open-iff (S .kind) (S .hours) row x)
 
--- overlapping goes both ways
-clash-sym : (t : Table) (i j : ℕ) → Clash t i j → Clash t j i
-clash-sym t i j o = record { tick = o .tick; below = o .below; in-first = o .in-second; in-second = o .in-first }
+  module _ (row′ : Row) where
+    pub clashes-iff : ValidRow S row → ValidRow S row′ → (clashes S row row′ ≡ true) ↔ Clash S row row′
+    unfolding clashes
+    clashes-iff v w = overlaps-iff (S .kind) (S .ticks) (row .start) (row .end) (row′ .start) (row′ .end) (v .window) (w .window)
+
+    -- rows that start together clash
+    pub clash-start : ValidRow S row → ValidRow S row′ → row .start ≡ row′ .start → Clash S row row′
+    unfolding clashes
+    clash-start v w e = clashes-iff v w .0 (subst (λ (s : ℕ). overlaps (row .start) (row .end) s (row′ .end) ≡ true) e (overlaps-start (row .start) (row .end) (row′ .end)))
+
+    -- a clash goes both ways
+    pub clash-sym : Clash S row row′ → Clash S row′ row
+    clash-sym o = record { tick = o .tick; below = o .below; in-first = o .in-second; in-second = o .in-first }
 
 -- what `isFit` says of row i
-abbrev Fits : Table → List ℕ → ℕ → Type 0
-Fits t labels i =
-    Allowed t i (at labels i)
-    × ((j : ℕ) → j < i → at labels i ≢ 0 → at labels i ≡ at labels j → Clash t i j → ⊥)
+abbrev FitAt : Table → List ℕ → ℕ → Type 0
+FitAt t labels i =
+    Allowed (t .setting) (rowAt t i) (at labels i)
+    × ((j : ℕ) → j < i → at labels i ≢ 0 → at labels i ≡ at labels j → Clash (t .setting) (rowAt t i) (rowAt t j) → ⊥)
 
 module _ (t : Table) (valid : Valid t) (labels : List ℕ) where
-  fit-iff : (i : ℕ) → i < rows t → (isFit t labels i ≡ true) ↔ Fits t labels i
+  fit-iff : (i : ℕ) → i < rows t → (isFit t labels i ≡ true) ↔ FitAt t labels i
   unfolding isFit isApart
   fit-iff i h =
-      and-iff (allowed-iff t i (at labels i))
+      and-iff (allowed-iff (t .setting) (rowAt t i) (at labels i))
       (every-iff i (λ j k.
       imp-iff (not-iff (eqb-iff (at labels i) 0))
       (imp-iff (eqb-iff (at labels i) (at labels j))
-      (not-iff (overlaps-iff (t .kind) (t .ticks) (at (t .starts) i) (at (t .ends) i) (at (t .starts) j) (at (t .ends) j) (valid .window i h) (valid .window j (omega arith)))))))
+      (not-iff (clashes-iff (t .setting) (rowAt t i) (rowAt t j) (valid .row i h) (valid .row j (omega arith)))))))
 
-  plan-fits : Plan t labels ↔ ((length labels ≡ rows t) × ((i : ℕ) → i < rows t → Fits t labels i))
+  plan-fits : Plan t labels ↔ ((length labels ≡ rows t) × ((i : ℕ) → i < rows t → FitAt t labels i))
   plan-fits = (
     λ P. (P .each, λ i h. (P .allowed i h, λ j k. P .apart i j h (omega arith) (λ e. omega arith))),
     λ f. record { each = f .0; allowed = λ i h. f .1 i h .0; apart = apart (f .1) },
   )
     where
-      apart : ((i : ℕ) → i < rows t → Fits t labels i)
-          → (i j : ℕ) → i < rows t → j < rows t → i ≢ j → at labels i ≢ 0 → at labels i ≡ at labels j → Clash t i j → ⊥
+      apart : ((i : ℕ) → i < rows t → FitAt t labels i)
+          → (i j : ℕ) → i < rows t → j < rows t → i ≢ j → at labels i ≢ 0 → at labels i ≡ at labels j → Clash (t .setting) (rowAt t i) (rowAt t j) → ⊥
       apart f i j h k d n e c = go (decLe i j)
         where
           go : Dec (i ≤ j) → ⊥
-          go (yes l) = f j k .1 i (omega (arith, d)) (λ z. n (e ∙ z)) (sym e) (clash-sym t i j c)
+          go (yes l) = f j k .1 i (omega (arith, d)) (λ z. n (e ∙ z)) (sym e) (clash-sym (t .setting) (rowAt t i) (rowAt t j) c)
           go (no l) = f i h .1 j (omega (arith, l)) n e c
 
   pub plan-iff : (isPlan t labels ≡ true) ↔ Plan t labels
@@ -76,7 +89,7 @@ module _ (t : Table) (valid : Valid t) (labels : List ℕ) where
   )
     where
       tests : (isPlan t labels ≡ true)
-          ↔ ((((length (t .ends) ≡ rows t) × (length (t .marks) ≡ rows t)) × (length labels ≡ rows t)) × ((i : ℕ) → i < rows t → Fits t labels i))
+          ↔ ((((length (t .ends) ≡ rows t) × (length (t .marks) ≡ rows t)) × (length labels ≡ rows t)) × ((i : ℕ) → i < rows t → FitAt t labels i))
       tests =
           and-iff
           (and-iff

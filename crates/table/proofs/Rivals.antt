@@ -5,13 +5,13 @@ use mathlib.Core.Logic.{_≢_, _↔_}
 use mathlib.Core.List.{List}
 use mathlib.Core.Option.{Option, none, some}
 use native.Mathlib.Omega.{arith}
-use borrow.Author.Tests.{eq-eqb}
+use borrow.Author.Tests.{eq-eqb, ne-eqb}
 use Rattle.labels.specs.Labels.{Best}
 use Rattle.labels.proofs.Best.{Passes, first-best, first-none, best-iff, assignment-iff}
 use Rattle.refusals.specs.declared.Refusal.the-variants.{Accepted, NoPlan}
-use Rattle.refusals.specs.Refusals.{numberOf}
-use Rattle.table.specs.Tables.{Table, rows, Allowed, Clash, Plan, Valid, isPlan}
-use Rattle.table.specs.Planned.{checked, bestPlan, given, planned, Demand3}
+use Rattle.refusals.specs.Refusals.{numberOf, answered}
+use Rattle.table.specs.Tables.{Table, rows, rowAt, Allowed, Clash, Plan, Valid, isPlan}
+use Rattle.table.specs.Planned.{checked, bestPlan, answering, given, planned, Demand3}
 use Rattle.table.proofs.Plans.{plan-iff}
 use Rattle.refusals.proofs.Refusals.{Passed}
 use Rattle.table.proofs.Checked.{checked-valid}
@@ -63,6 +63,11 @@ pub planned-passed : (t : Table) (before : List ℕ) (space : ℕ) → Passed (c
 unfolding planned
 planned-passed t before space p = rw (eq-eqb (numberOf (checked t before space)) 0 p) refl
 
+-- and before that the first refusal, which changes nothing
+pub planned-refused : (t : Table) (before : List ℕ) (space : ℕ) → (numberOf (checked t before space) ≡ 0 → ⊥) → planned t before space ≡ answering (answered (checked t before space) 0) before
+unfolding planned
+planned-refused t before space n = rw (ne-eqb (numberOf (checked t before space)) 0 n) refl
+
 -- DEMAND 3, whole: for every table that passes all checks before 8, whatever the label list held before
 pub demand-3 : (t : Table) (before : List ℕ) (space : ℕ) → Passed (checked t before space) → Demand3 t (planned t before space .answer) (planned t before space .labels)
 demand-3 t before space p =
@@ -82,8 +87,8 @@ only-none t before space p n =
 
 -- The best plan depends on a table only through which labels each row may have and which rows overlap.
 pub same-best : (t u : Table) → Valid t → Valid u → rows t ≡ rows u
-    → ((i x : ℕ) → i < rows t → Allowed t i x ↔ Allowed u i x)
-    → ((i j : ℕ) → i < rows t → j < rows t → i ≢ j → Clash t i j ↔ Clash u i j)
+    → ((i x : ℕ) → i < rows t → Allowed (t .setting) (rowAt t i) x ↔ Allowed (u .setting) (rowAt u i) x)
+    → ((i j : ℕ) → i < rows t → j < rows t → i ≢ j → Clash (t .setting) (rowAt t i) (rowAt t j) ↔ Clash (u .setting) (rowAt u i) (rowAt u j))
     → bestPlan t ≡ bestPlan u
 same-best t u v w n mays clashes = go (bestPlan u) refl
   where

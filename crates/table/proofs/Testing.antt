@@ -1,4 +1,4 @@
--- Laws of the test for a plan, as its code goes through it: a label's cases, one earlier row more, one row more.
+-- Laws of the test for a plan, as its code goes through it: a label's cases, one row more.
 use Prim.Native.Nat.{ℕ, zero, suc, _-_, _≤_, _<_}
 use mathlib.Core.Path.{_≡_, refl, _∙_, sym}
 use mathlib.Core.Bool.{Bool, true, false, not, _&&_, and-false}
@@ -9,71 +9,72 @@ use lib.Dec.{leb, eqb}
 use lib.ListN.{length}
 use borrow.Author.Tests.{le-leb, lt-leb, eq-eqb, ne-eqb}
 use Rattle.basics.specs.Lists.{at}
-use Rattle.basics.proofs.Tests.{every-fails}
 use Rattle.basics.specs.Tests.{_⇒_, every}
+use Rattle.basics.proofs.Tests.{every-fails}
 use Rattle.window.specs.declared.Kind.{Kind}
 use Rattle.window.specs.declared.Kind.the-variants.{Round, Run}
-use Rattle.window.specs.Windows.{overlaps}
-use Rattle.table.specs.Tables.{Table, rows, isOpen, isAllowed, isApart, isFit, isPlan}
+use Rattle.window.specs.declared.Row.{Row}
 use Rattle.window.specs.Hours.{hour}
+use Rattle.table.specs.declared.Setting.{Setting}
+use Rattle.table.specs.Tables.{Table, rows, rowAt, isOpen, isAllowed, clashes, isApart, apartAt, isFit, isPlan}
 
 -- ---- one label
 
-module _ (hours : List (List ℕ)) (start end : ℕ) where
-  pub open-within : (label : ℕ) → 1 ≤ label → hour hours (label - 1) 0 ≤ start → leb end (hour hours (label - 1) 1) ≡ isOpen Run hours label start end
+module _ {hours hours′ : List (List ℕ)} (same : hours ≡ hours′) (row : Row) where
+  pub open-within : (label : ℕ) → 1 ≤ label → hour hours (label - 1) 0 ≤ row .start → leb (row .end) (hour hours (label - 1) 1) ≡ isOpen Run hours′ row label
   open-within zero h l = absurd (omega arith)
-  open-within (suc r) h l = let m : hour hours r 0 ≤ start = rw sub-one at l in rw (sub-one, le-leb (hour hours r 0) start m) refl
+  open-within (suc r) h l = let m : hour hours r 0 ≤ row .start = rw sub-one at l in rw (← same) (rw (sub-one, le-leb (hour hours r 0) (row .start) m) refl)
 
-  pub open-outside : (label : ℕ) → 1 ≤ label → start < hour hours (label - 1) 0 → false ≡ isOpen Run hours label start end
+  pub open-outside : (label : ℕ) → 1 ≤ label → row .start < hour hours (label - 1) 0 → false ≡ isOpen Run hours′ row label
   open-outside zero h l = absurd (omega arith)
-  open-outside (suc r) h l = let m : start < hour hours r 0 = rw sub-one at l in rw (lt-leb (hour hours r 0) start m) refl
+  open-outside (suc r) h l = let m : row .start < hour hours r 0 = rw sub-one at l in rw (← same) (rw (lt-leb (hour hours r 0) (row .start) m) refl)
 
-module _ (kind : Kind) (hours : List (List ℕ)) (start end mark label : ℕ) where
-  pub allowed-past : 2 < label → false ≡ isAllowed kind hours start end mark label
+module _ (S : Setting) (row : Row) where
+  pub allowed-past : (label : ℕ) → 2 < label → false ≡ isAllowed S row label
   unfolding isAllowed
-  allowed-past h = simp (lt-leb label 2 h)
+  allowed-past label h = simp (lt-leb label 2 h)
 
-  pub allowed-heard : label ≤ 2 → (label ≡ 0 → ⊥) → isOpen kind hours label start end ≡ isAllowed kind hours start end mark label
+  pub allowed-heard : (label : ℕ) → label ≤ 2 → (label ≡ 0 → ⊥) → isOpen (S .kind) (S .hours) row label ≡ isAllowed S row label
   unfolding isAllowed
-  allowed-heard h n = rw (le-leb label 2 h, ne-eqb label 0 n) (go (eqb mark 1))
+  allowed-heard label h n = rw (le-leb label 2 h, ne-eqb label 0 n) (go (eqb (row .mark) 1))
     where
-      go : (b : Bool) → isOpen kind hours label start end ≡ (b ⇒ true) && isOpen kind hours label start end
+      go : (b : Bool) → isOpen (S .kind) (S .hours) row label ≡ (b ⇒ true) && isOpen (S .kind) (S .hours) row label
       go true = refl
       go false = refl
 
-pub allowed-none : (kind : Kind) (hours : List (List ℕ)) (start end mark label : ℕ) → label ≡ 0 → not (eqb mark 1) ≡ isAllowed kind hours start end mark label
-unfolding isAllowed
-allowed-none kind hours start end mark label e = rw e (go kind (eqb mark 1))
-  where
-    go : (kind : Kind) (b : Bool) → not b ≡ (b ⇒ false) && isOpen kind hours 0 start end
-    go Round true = refl
-    go Round false = refl
-    go Run true = refl
-    go Run false = refl
+  pub allowed-none : (label : ℕ) → label ≡ 0 → not (eqb (row .mark) 1) ≡ isAllowed S row label
+  unfolding isAllowed
+  allowed-none label e = rw e (go (S .kind) (eqb (row .mark) 1))
+    where
+      go : (kind : Kind) (b : Bool) → not b ≡ (b ⇒ false) && isOpen kind (S .hours) row 0
+      go Round true = refl
+      go Round false = refl
+      go Run true = refl
+      go Run false = refl
 
--- ---- two rows
+  -- ---- two rows
 
-module _ (starts ends labels : List ℕ) (i j : ℕ) where
-  pub apart-unheard : at labels i ≡ 0 → true ≡ isApart starts ends labels i j
-  unfolding isApart
-  apart-unheard e = rw (eq-eqb (at labels i) 0 e) refl
+  module _ (label : ℕ) (row′ : Row) (label′ : ℕ) where
+    pub apart-unheard : label ≡ 0 → true ≡ isApart S row label row′ label′
+    unfolding isApart
+    apart-unheard e = rw (eq-eqb label 0 e) refl
 
-  pub apart-receivers : (at labels i ≡ 0 → ⊥) → (at labels i ≡ at labels j → ⊥) → true ≡ isApart starts ends labels i j
-  unfolding isApart
-  apart-receivers n m = rw (ne-eqb (at labels i) 0 n, ne-eqb (at labels i) (at labels j) m) refl
+    pub apart-receivers : (label ≡ 0 → ⊥) → (label ≡ label′ → ⊥) → true ≡ isApart S row label row′ label′
+    unfolding isApart
+    apart-receivers n m = rw (ne-eqb label 0 n, ne-eqb label label′ m) refl
 
-  pub apart-windows : (at labels i ≡ 0 → ⊥) → at labels i ≡ at labels j → not (overlaps (at starts i) (at ends i) (at starts j) (at ends j)) ≡ isApart starts ends labels i j
-  unfolding isApart
-  apart-windows n m = rw (ne-eqb (at labels i) 0 n, eq-eqb (at labels i) (at labels j) m) refl
+    pub apart-windows : (label ≡ 0 → ⊥) → label ≡ label′ → not (clashes S row row′) ≡ isApart S row label row′ label′
+    unfolding isApart
+    apart-windows n m = rw (ne-eqb label 0 n, eq-eqb label label′ m) refl
 
 -- ---- all rows
 
 module _ (t : Table) (labels : List ℕ) where
   abbrev pub allowedAt : ℕ → Bool
-  allowedAt i = isAllowed (t .kind) (t .hours) (at (t .starts) i) (at (t .ends) i) (at (t .marks) i) (at labels i)
+  allowedAt i = isAllowed (t .setting) (rowAt t i) (at labels i)
 
   abbrev pub apartBefore : ℕ → Bool
-  apartBefore i = every i (isApart (t .starts) (t .ends) labels i)
+  apartBefore i = every i (apartAt t labels i)
 
   pub not-even-ends : (length (t .ends) ≡ rows t → ⊥) → false ≡ isPlan t labels
   unfolding isPlan

@@ -4,20 +4,25 @@ use mathlib.Core.Bool.{Bool, cond, _&&_}
 use mathlib.Core.List.{List}
 use lib.Dec.{leb, eqb}
 use lib.ListN.{length}
-use Rattle.basics.specs.Lists.{at}
+use Rattle.basics.specs.Limits.{maxRows}
 use Rattle.window.specs.declared.Kind.{Kind}
 use Rattle.window.specs.declared.Kind.the-variants.{Round, Run}
+use Rattle.window.specs.declared.Row.{Row}
+use Rattle.window.specs.Hours.{hour}
 use Rattle.window.specs.Windows.{isWindow}
 use Rattle.refusals.specs.declared.Refusal.{Refusal}
 use Rattle.refusals.specs.declared.Refusal.the-variants.{Accepted, Lists, Rows, Ticks, Hours, Window, Mark}
-use Rattle.table.specs.declared.Looked.{Looked}
 use Rattle.refusals.specs.Refusals.{asked, passes, _then_}
-use Rattle.table.specs.Tables.{Table, isEven}
-use Rattle.window.specs.Hours.{hour}
+use Rattle.table.specs.declared.Setting.{Setting}
+use Rattle.table.specs.declared.Looked.{Looked}
+use Rattle.table.specs.Tables.{Table, rows, rowAt, isEven}
 
 -- "1: lent table lists, labels included, differ in length"; "2: more than 64 rows": by the lengths of starts, ends, marks and labels
-unfoldable pub listsRefusal : ℕ → ℕ → ℕ → ℕ → Refusal
-listsRefusal starts ends marks labels = asked (eqb ends starts && eqb marks starts && eqb labels starts) Lists then asked (leb starts 64) Rows
+unfoldable pub lengthsRefusal : ℕ → ℕ → ℕ → ℕ → Refusal
+lengthsRefusal starts ends marks labels = asked (eqb ends starts && eqb marks starts && eqb labels starts) Lists then asked (leb starts maxRows) Rows
+
+abbrev pub listsRefusal : Table → List ℕ → Refusal
+listsRefusal t labels = lengthsRefusal (rows t) (length (t .ends)) (length (t .marks)) (length labels)
 
 -- "4: R outside 2 to 43,200"
 unfoldable pub ticksRefusal : ℕ → Refusal
@@ -32,32 +37,33 @@ unfoldable pub hoursRefusal : Kind → ℕ → List (List ℕ) → Refusal
 hoursRefusal Round R hours = Accepted
 hoursRefusal Run R hours = asked (isHours hours R 0 && isHours hours R 1) Hours
 
+-- checks 4 and 5
+unfoldable pub settingRefusal : Setting → Refusal
+unfolding ticksRefusal hoursRefusal
+settingRefusal S = ticksRefusal (S .ticks) then hoursRefusal (S .kind) (S .ticks) (S .hours)
+
 -- "6: a window breaks the rules above", "7: a mark above 1": one row, "for 6 and then 7"
-unfoldable pub rowRefusal : Kind → ℕ → ℕ → ℕ → ℕ → Refusal
-rowRefusal kind R start end mark = asked (isWindow kind R start end) Window then asked (leb mark 1) Mark
+unfoldable pub rowRefusal : Setting → Row → Refusal
+rowRefusal S row = asked (isWindow (S .kind) (S .ticks) (row .start) (row .end)) Window then asked (leb (row .mark) 1) Mark
+
+abbrev pub looked : Refusal → ℕ → Looked
+looked r n = record { refusal = r; rows = n }
 
 -- "rows from 0": the first refusal among n rows from row i on, and how many rows were looked at
 unfoldable pub lookFrom : (ℕ → Refusal) → ℕ → ℕ → Looked
-lookFrom check i zero = record { refusal = Accepted; rows = i }
-lookFrom check i (suc n) = cond (passes (check i)) (lookFrom check (i + 1) n) (record { refusal = check i; rows = i + 1 })
+lookFrom check i zero = looked Accepted i
+lookFrom check i (suc n) = cond (passes (check i)) (lookFrom check (i + 1) n) (looked (check i) (i + 1))
 
--- rows 0, 1, 2, .. of three lists; lists of unequal length are refused 1 before any row is looked at
-unfoldable pub rowsLooked : Kind → ℕ → List ℕ → List ℕ → List ℕ → Looked
+-- the check of row i
+abbrev pub rowCheck : Table → ℕ → Refusal
+rowCheck t i = rowRefusal (t .setting) (rowAt t i)
+
+-- rows 0, 1, 2, ..; lists of unequal length are refused 1 before any row is looked at
+unfoldable pub rowsLooked : Table → Looked
 unfolding lookFrom rowRefusal
-rowsLooked kind R starts ends marks =
-    cond (isEven starts ends marks)
-    (lookFrom (λ i. rowRefusal kind R (at starts i) (at ends i) (at marks i)) 0 (length starts))
-    (record { refusal = Lists; rows = 0 })
-
--- checks 4 and 5
-unfoldable pub settingRefusal : Kind → ℕ → List (List ℕ) → Refusal
-unfolding ticksRefusal hoursRefusal
-settingRefusal kind R hours = ticksRefusal R then hoursRefusal kind R hours
+rowsLooked t = cond (isEven t) (lookFrom (rowCheck t) 0 (rows t)) (looked Lists 0)
 
 -- checks 4 and 5, and then the rows for 6 and 7
 unfoldable pub tableLooked : Table → Looked
 unfolding settingRefusal rowsLooked
-tableLooked t =
-    cond (passes (settingRefusal (t .kind) (t .ticks) (t .hours)))
-    (rowsLooked (t .kind) (t .ticks) (t .starts) (t .ends) (t .marks))
-    (record { refusal = settingRefusal (t .kind) (t .ticks) (t .hours); rows = 0 })
+tableLooked t = cond (passes (settingRefusal (t .setting))) (rowsLooked t) (looked (settingRefusal (t .setting)) 0)

@@ -13,40 +13,39 @@ use Rattle.refusals.specs.declared.Refusal.the-variants.{Accepted, Space, NoPla
 use Rattle.refusals.specs.declared.Answer.{Answer}
 use Rattle.refusals.specs.Refusals.{numberOf, answered, asked, passes, _then_}
 use Rattle.table.specs.Tables.{Table, rows, Plan, isPlan}
-use Rattle.table.specs.Checks.{listsRefusal, tableLooked}
+use Rattle.table.specs.Checks.{lengthsRefusal, listsRefusal, tableLooked}
 
 -- the working space that the planner needs and clears, in bytes
-unfoldable pub spaceBytes : ℕ
+abbrev pub spaceBytes : ℕ
 spaceBytes = 16384
 
 -- "3: working space shorter than 16,384 bytes"
 unfoldable pub spaceRefusal : ℕ → Refusal
-unfolding spaceBytes
 spaceRefusal n = asked (leb spaceBytes n) Space
 
 -- "Planner's order: 1, 2, 3, 4, 5, then rows from 0, each for 6 and then 7"
 unfoldable pub checked : Table → List ℕ → ℕ → Refusal
-unfolding listsRefusal spaceRefusal tableLooked
-checked t labels space =
-    listsRefusal (rows t) (length (t .ends)) (length (t .marks)) (length labels)
-    then spaceRefusal space
-    then tableLooked t .refusal
+unfolding lengthsRefusal spaceRefusal tableLooked
+checked t labels space = listsRefusal t labels then spaceRefusal space then tableLooked t .refusal
 
 -- "The planner gives a plan with the most heard rows. Among those .. the earliest is given."
 unfoldable pub bestPlan : Table → Option (List ℕ)
 unfolding firstBest isPlan
 bestPlan t = firstBest (rows t) (isPlan t)
 
--- what a call gives: its answer, and what the label list then holds
+-- a call's answer, and what the label list then holds
 pub record Planned : Type 0 where
   pub answer : Answer
   pub labels : List ℕ
 
+abbrev pub answering : Answer → List ℕ → Planned
+answering answer labels = record { answer = answer; labels = labels }
+
 -- "8: no plan exists"; a plan "reports the count" and "fills the labels"
 unfoldable pub given : Option (List ℕ) → List ℕ → Planned
 unfolding heard
-given none before = record { answer = answered NoPlan 0; labels = before }
-given (some plan) before = record { answer = answered Accepted (heard plan); labels = plan }
+given none before = answering (answered NoPlan 0) before
+given (some plan) before = answering (answered Accepted (heard plan)) plan
 
 -- The planner's answer for a table, a label list that held `before`, and working space of so many bytes. "The first that applies is reported, with count 0. Outputs .. are untouched."
 unfoldable pub planned : Table → List ℕ → ℕ → Planned
@@ -54,11 +53,27 @@ unfolding checked bestPlan given
 planned t before space =
     cond (passes (checked t before space))
     (given (bestPlan t) before)
-    (record { answer = answered (checked t before space) 0; labels = before })
+    (answering (answered (checked t before space) 0) before)
 
 -- What the working space holds after a call with this refusal: an accepted call "clears to zero the first 16,384 bytes"; "Bytes beyond are untouched"; "8 clears the same 16,384 bytes"; otherwise it is untouched.
 unfoldable pub spaceAfter : Refusal → List ℕ → List ℕ
 spaceAfter r space = cond (passes r || eqb (numberOf r) 8) (replicate spaceBytes 0 ++ drop spaceBytes space) space
+
+-- what a call gives, whole: its answer, and what the label list and the working space then hold
+pub record PlanCalled : Type 0 where
+  pub answer : Answer
+  pub labels : List ℕ
+  pub space : List ℕ
+
+abbrev pub called : Answer → List ℕ → List ℕ → PlanCalled
+called answer labels space = record { answer = answer; labels = labels; space = space }
+
+-- THE RIGHT ANSWER of a call, for a table, a label list and working space as they are lent
+unfoldable pub planCall : Table → List ℕ → List ℕ → PlanCalled
+unfolding planned spaceAfter
+planCall t labels space =
+    called (planned t labels (length space) .answer) (planned t labels (length space) .labels)
+    (spaceAfter (planned t labels (length space) .answer .refusal) space)
 
 -- ---- demand 3
 

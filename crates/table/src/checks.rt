@@ -2,14 +2,17 @@
 ghost use mathlib.Core.Path.{_≡_};
 ghost use Prim.Native.Nat.{_<_};
 ghost use Rattle.table.specs.Tables.{table};
-ghost use Rattle.table.specs.Checks.{listsRefusal, ticksRefusal, isHours, hoursRefusal, settingRefusal, rowRefusal, rowsLooked, tableLooked};
+ghost use Rattle.table.specs.Checks.{lengthsRefusal, ticksRefusal, isHours, hoursRefusal, settingRefusal, rowRefusal, looked, rowsLooked, tableLooked};
 use crate::Looked;
+use crate::Setting;
+use basics::MAX_ROWS;
 use refusals::Refusal;
 use window::Kind;
+use window::Row;
 
 // Checks 1 and 2, by the lengths of the four lists.
 pub fn check_lists(starts: usize, ends: usize, marks: usize, labels: usize) -> Refusal
-    ensures { λ r. ⌜ r ≡ listsRefusal starts ends marks labels ⌝ }
+    ensures { λ r. ⌜ r ≡ lengthsRefusal starts ends marks labels ⌝ }
 {
     if ends != starts {
         return Refusal::Lists;
@@ -20,14 +23,14 @@ pub fn check_lists(starts: usize, ends: usize, marks: usize, labels: usize) -> R
     if labels != starts {
         return Refusal::Lists;
     }
-    if 64 < starts {
+    if MAX_ROWS < starts {
         return Refusal::Rows;
     }
     Refusal::Accepted
 }
 
 // Check 4.
-pub fn check_ticks(ticks: u16) -> Refusal
+fn check_ticks(ticks: u16) -> Refusal
     ensures { λ r. ⌜ r ≡ ticksRefusal ticks ⌝ }
 {
     if ticks < 2 {
@@ -51,7 +54,7 @@ fn is_hours(hours: [[u16; 2]; 2], ticks: u16, receiver: usize) -> bool
 }
 
 // Check 5.
-pub fn check_hours(kind: Kind, ticks: u16, hours: [[u16; 2]; 2]) -> Refusal
+fn check_hours(kind: Kind, ticks: u16, hours: [[u16; 2]; 2]) -> Refusal
     ensures { λ r. ⌜ r ≡ hoursRefusal kind ticks hours ⌝ }
 {
     if let Kind::Round = kind {
@@ -67,76 +70,66 @@ pub fn check_hours(kind: Kind, ticks: u16, hours: [[u16; 2]; 2]) -> Refusal
 }
 
 // Checks 4 and 5.
-pub fn check_setting(kind: Kind, ticks: u16, hours: [[u16; 2]; 2]) -> Refusal
-    ensures { λ r. ⌜ r ≡ settingRefusal kind ticks hours ⌝ }
+pub fn check_setting(setting: Setting) -> Refusal
+    ensures { λ r. ⌜ r ≡ settingRefusal setting ⌝ }
 {
+    let ticks = setting.ticks;
     let refusal = check_ticks(ticks);
     if refusals::number(refusal) != 0 {
         return refusal;
     }
-    check_hours(kind, ticks, hours)
+    let kind = setting.kind;
+    check_hours(kind, ticks, crate::hours_in(setting))
 }
 
 // Checks 6 and 7 of one row.
-pub fn check_row(kind: Kind, ticks: u16, start: u16, end: u16, mark: u8) -> Refusal
-    ensures { λ r. ⌜ r ≡ rowRefusal kind ticks start end mark ⌝ }
+pub fn check_row(setting: Setting, row: Row) -> Refusal
+    ensures { λ r. ⌜ r ≡ rowRefusal setting row ⌝ }
 {
-    if !window::is_window(kind, ticks, start, end) {
+    let kind = setting.kind;
+    if !window::is_window(kind, setting.ticks, row.start, row.end) {
         return Refusal::Window;
     }
-    if 1 < mark {
+    if 1 < row.mark {
         return Refusal::Mark;
     }
     Refusal::Accepted
 }
 
+fn looked_at(refusal: Refusal, rows: usize) -> Looked
+    ensures { λ r. ⌜ r ≡ looked refusal rows ⌝ }
+{
+    Looked { refusal, rows }
+}
+
 // Checks 6 and 7 of the rows from 0, as far as the first refusal. Lists of unequal length are refused before any row is looked at.
-pub fn check_rows(kind: Kind, ticks: u16, starts: &[u16], ends: &[u16], marks: &[u8]) -> Looked
-    ensures { λ r. ⌜ r ≡ rowsLooked kind ticks (now (starts .entry)) (now (ends .entry)) (now (marks .entry)) ⌝ }
+pub fn check_rows(setting: Setting, starts: &[u16], ends: &[u16], marks: &[u8]) -> Looked
+    ensures { λ r. ⌜ r ≡ rowsLooked (table setting (now (starts .entry)) (now (ends .entry)) (now (marks .entry))) ⌝ }
 {
     if ends.len() != starts.len() {
-        return Looked {
-            refusal: Refusal::Lists,
-            rows: 0,
-        };
+        return looked_at(Refusal::Lists, 0);
     }
     if marks.len() != starts.len() {
-        return Looked {
-            refusal: Refusal::Lists,
-            rows: 0,
-        };
+        return looked_at(Refusal::Lists, 0);
     }
     let mut i = 0;
     while i < starts.len() {
-        let refusal = check_row(kind, ticks, starts[i], ends[i], marks[i]);
+        let refusal = check_row(setting, crate::row_at(starts, ends, marks, i));
         if refusals::number(refusal) != 0 {
-            return Looked {
-                refusal,
-                rows: i + 1,
-            };
+            return looked_at(refusal, i + 1);
         }
         i += 1;
     }
-    Looked {
-        refusal: Refusal::Accepted,
-        rows: i,
-    }
+    looked_at(Refusal::Accepted, i)
 }
 
 // Checks 4 and 5, and then the rows for 6 and 7.
-pub fn check_table(
-    kind: Kind,
-    ticks: u16,
-    hours: [[u16; 2]; 2],
-    starts: &[u16],
-    ends: &[u16],
-    marks: &[u8],
-) -> Looked
-    ensures { λ r. ⌜ r ≡ tableLooked (table kind ticks hours (now (starts .entry)) (now (ends .entry)) (now (marks .entry))) ⌝ }
+pub fn check_table(setting: Setting, starts: &[u16], ends: &[u16], marks: &[u8]) -> Looked
+    ensures { λ r. ⌜ r ≡ tableLooked (table setting (now (starts .entry)) (now (ends .entry)) (now (marks .entry))) ⌝ }
 {
-    let refusal = check_setting(kind, ticks, hours);
+    let refusal = check_setting(setting);
     if refusals::number(refusal) != 0 {
-        return Looked { refusal, rows: 0 };
+        return looked_at(refusal, 0);
     }
-    check_rows(kind, ticks, starts, ends, marks)
+    check_rows(setting, starts, ends, marks)
 }

@@ -4,67 +4,79 @@ ghost use mathlib.Core.Bool.{true};
 ghost use mathlib.Core.Logic.{_↔_};
 ghost use Prim.Native.Nat.{_≤_};
 ghost use Rattle.basics.specs.Tests.{every};
-ghost use Rattle.table.specs.Tables.{table, Plan, isOpen, isAllowed, isApart, isPlan, Paired, Valid};
+ghost use Rattle.table.specs.Tables.{table, Plan, isOpen, isAllowed, clashes, isApart, apartAt, isPlan, LabelIn, Valid};
+use crate::Setting;
+use crate::row_at;
 use window::Kind;
+use window::Row;
 
 // Whether the receiver of a heard row is open for its window.
-fn is_open(kind: Kind, hours: [[u16; 2]; 2], label: u8, start: u16, end: u16) -> bool
+fn is_open(setting: Setting, row: Row, label: u8) -> bool
     requires { ⌜ (1 ≤ label) × (label ≤ 2) ⌝ }
-    ensures { λ r. ⌜ r ≡ isOpen kind hours label start end ⌝ }
+    ensures { λ r. ⌜ r ≡ isOpen (setting .kind) (setting .hours) row label ⌝ }
 {
+    let kind = setting.kind;
     if let Kind::Round = kind {
         return true;
     }
+    let hours = crate::hours_in(setting);
     let receiver = (label - 1) as usize;
-    if hours[receiver][0] <= start {
-        return end <= hours[receiver][1];
+    if hours[receiver][0] <= row.start {
+        return row.end <= hours[receiver][1];
     }
     false
 }
 
 // Whether a row may have the label.
-pub fn is_allowed(
-    kind: Kind,
-    hours: [[u16; 2]; 2],
-    start: u16,
-    end: u16,
-    mark: u8,
-    label: u8,
-) -> bool
-    ensures { λ r. ⌜ r ≡ isAllowed kind hours start end mark label ⌝ }
+pub fn is_allowed(setting: Setting, row: Row, label: u8) -> bool
+    ensures { λ r. ⌜ r ≡ isAllowed setting row label ⌝ }
 {
     if 2 < label {
         return false;
     }
     if label == 0 {
-        return mark != 1;
+        return row.mark != 1;
     }
-    is_open(kind, hours, label, start, end)
+    is_open(setting, row, label)
 }
 
-// Whether rows i and j are not on one receiver, or do not overlap.
-fn is_apart(starts: &[u16], ends: &[u16], labels: &[u8], i: usize, j: usize) -> bool
-    requires { ⌜ Paired (now starts) (now ends) (now labels) i j ⌝ }
-    ensures { λ r. ⌜ r ≡ isApart (now (starts .entry)) (now (ends .entry)) (now (labels .entry)) i j ⌝ }
+// Whether two rows cannot be heard by one receiver. The setting does not matter yet: windows that pass check 6 overlap alike in a round and in a run.
+pub fn is_clash(setting: Setting, row: Row, row2: Row) -> bool
+    ensures { λ r. ⌜ r ≡ clashes setting row row2 ⌝ }
 {
-    let label = labels[i];
+    window::overlap(row.start, row.end, row2.start, row2.end)
+}
+
+// Whether two rows with these labels are not on one receiver, or do not clash.
+fn is_apart(setting: Setting, row: Row, label: u8, row2: Row, label2: u8) -> bool
+    ensures { λ r. ⌜ r ≡ isApart setting row label row2 label2 ⌝ }
+{
     if label == 0 {
         return true;
     }
-    if label != labels[j] {
+    if label != label2 {
         return true;
     }
-    !window::overlap(starts[i], ends[i], starts[j], ends[j])
+    !is_clash(setting, row, row2)
 }
 
 // Whether row i is apart from the rows before it.
-fn is_apart_before(starts: &[u16], ends: &[u16], labels: &[u8], i: usize) -> bool
-    requires { ⌜ Paired (now starts) (now ends) (now labels) i i ⌝ }
-    ensures { λ r. ⌜ r ≡ every i (isApart (now (starts .entry)) (now (ends .entry)) (now (labels .entry)) i) ⌝ }
+fn is_apart_before(
+    setting: Setting,
+    starts: &[u16],
+    ends: &[u16],
+    marks: &[u8],
+    labels: &[u8],
+    i: usize,
+) -> bool
+    requires { ⌜ LabelIn (table setting (now starts) (now ends) (now marks)) (now labels) i ⌝ }
+    ensures { λ r. ⌜ r ≡ every i (apartAt (table setting (now (starts .entry)) (now (ends .entry)) (now (marks .entry))) (now (labels .entry)) i) ⌝ }
 {
+    let row = row_at(starts, ends, marks, i);
     let mut j = 0;
     while j < i {
-        if !is_apart(starts, ends, labels, i, j) {
+        let earlier = row_at(starts, ends, marks, j);
+        if !is_apart(setting, row, labels[i], earlier, labels[j]) {
             return false;
         }
         j += 1;
@@ -73,17 +85,9 @@ fn is_apart_before(starts: &[u16], ends: &[u16], labels: &[u8], i: usize) -> boo
 }
 
 // Whether the labels are a plan of the table. Of a table that fails a check it is what `isPlan` computes, and says nothing about plans.
-pub fn is_plan(
-    kind: Kind,
-    ticks: u16,
-    hours: [[u16; 2]; 2],
-    starts: &[u16],
-    ends: &[u16],
-    marks: &[u8],
-    labels: &[u8],
-) -> bool
-    ensures computed { λ r. ⌜ r ≡ isPlan (table kind ticks hours (now (starts .entry)) (now (ends .entry)) (now (marks .entry))) (now (labels .entry)) ⌝ }
-    ensures meaning { λ r. ⌜ (Valid (table kind ticks hours (now (starts .entry)) (now (ends .entry)) (now (marks .entry))) → (r ≡ true) ↔ Plan (table kind ticks hours (now (starts .entry)) (now (ends .entry)) (now (marks .entry))) (now (labels .entry))) ⌝ }
+pub fn is_plan(setting: Setting, starts: &[u16], ends: &[u16], marks: &[u8], labels: &[u8]) -> bool
+    ensures computed { λ r. ⌜ r ≡ isPlan (table setting (now (starts .entry)) (now (ends .entry)) (now (marks .entry))) (now (labels .entry)) ⌝ }
+    ensures meaning { λ r. ⌜ (Valid (table setting (now (starts .entry)) (now (ends .entry)) (now (marks .entry))) → (r ≡ true) ↔ Plan (table setting (now (starts .entry)) (now (ends .entry)) (now (marks .entry))) (now (labels .entry))) ⌝ }
 {
     if ends.len() != starts.len() {
         return false;
@@ -96,10 +100,10 @@ pub fn is_plan(
     }
     let mut i = 0;
     while i < starts.len() {
-        if !is_allowed(kind, hours, starts[i], ends[i], marks[i], labels[i]) {
+        if !is_allowed(setting, row_at(starts, ends, marks, i), labels[i]) {
             return false;
         }
-        if !is_apart_before(starts, ends, labels, i) {
+        if !is_apart_before(setting, starts, ends, marks, labels, i) {
             return false;
         }
         i += 1;

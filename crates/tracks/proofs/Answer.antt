@@ -6,6 +6,7 @@ use mathlib.Core.List.{List}
 use native.Mathlib.Omega.{arith}
 use lib.ListN.{length, drop, take, length-drop}
 use lib.Seq.{drop-drop, take-all}
+use Rattle.line.specs.Cells.{cellBytes, coreBytes}
 use Rattle.basics.specs.Lists.{at}
 use Rattle.labels.proofs.Heard.{heard-le}
 use Rattle.arcs.specs.Arcs.{Arcs, Meet, Assigned}
@@ -42,8 +43,8 @@ module _ {C : ℕ} {ss ls ps es order : List ℕ} {m cap r : ℕ} (A : Arcs C ss
       }
 
 -- what stands behind 4,225 bytes stands behind 4,608
-pub frame-wider : (space space′ : List ℕ) → drop 4225 space′ ≡ drop 4225 space → drop 4608 space′ ≡ drop 4608 space
-frame-wider space space′ e = sym (drop-drop 383 4225 space′) ∙ ap (drop 383) e ∙ drop-drop 383 4225 space
+pub frame-wider : (space space′ : List ℕ) → drop cellBytes space′ ≡ drop cellBytes space → drop coreBytes space′ ≡ drop coreBytes space
+frame-wider space space′ e = sym (drop-drop 383 cellBytes space′) ∙ ap (drop 383) e ∙ drop-drop 383 cellBytes space
 
 -- a part from k to the end
 pub take-drop : (k : ℕ) (l : List ℕ) → take (length l - k) (drop k l) ≡ drop k l

@@ -9,6 +9,7 @@ use lib.Dec.{eqb}
 use lib.ListN.{length, set, drop}
 use lib.Seq.{set-set}
 use borrow.Author.Tests.{eqb-true, eqb-false}
+use Rattle.line.specs.Cells.{cellBytes}
 use Rattle.labels.specs.Labels.{place}
 use Rattle.labels.specs.Permission.{permits, only}
 use Rattle.pairs.specs.Capped.{Capped, Ready}
@@ -119,6 +120,6 @@ ready-for R e h =
 -- the next try is lent the same, if the lists have kept their lengths and the space its low rows
 pub row-again : {positions ends order perms perms′ : List ℕ} {m cap : ℕ} {left left′ space space′ : List ℕ} {i : ℕ}
     → RowReady positions ends order perms m cap left space i
-    → length perms′ ≡ length perms → length left′ ≡ length left → length space′ ≡ length space → drop 4225 space′ ≡ drop 4225 space
+    → length perms′ ≡ length perms → length left′ ≡ length left → length space′ ≡ length space → drop cellBytes space′ ≡ drop cellBytes space
     → RowReady positions ends order perms′ m cap left′ space′ i
 row-again R e f g d = record { ready = ready-for (ready-again (R .ready) f g d) e (R .ready .cap-some); row-below = rw e (R .row-below) }

@@ -8,14 +8,14 @@ use Rattle.labels.specs.Labels.{heard, Best}
 use Rattle.labels.specs.Permission.{labelOf}
 use Rattle.arcs.specs.Arcs.{Arcs}
 use Rattle.arcs.specs.Order.{Arranged}
-use Rattle.line.specs.Cells.{Lows}
+use Rattle.line.specs.Cells.{Lows, coreBytes}
 pub use Rattle.pairs.specs.Capped.{Most}
 
 -- what the functions are lent: arcs within their circle, a permission for each, and working space
 pub record Lent (C : ℕ) (starts lengths perms space : List ℕ) : Type 0 where
   pub arcs : Arcs C starts lengths
   pub each-perm : length perms ≡ length starts
-  pub room : 4608 ≤ length space
+  pub room : coreBytes ≤ length space
 
 -- The answer of `best_assignment`: 0 where there is no assignment; else the permissions permit one label a row, those of the best assignment, and the answer is its count and one more.
 pub record Answered (C : List ℕ → Type 0) (r : ℕ) (perms : List ℕ) : Type 0 where
@@ -33,4 +33,4 @@ pub record Solved (C : List ℕ → Type 0) (narrowing : Bool) (r : ℕ) (perms 
 pub record Prepared (C : ℕ) (starts lengths positions ends order : List ℕ) (m : ℕ) (space space′ : List ℕ) : Type 0 where
   pub arranged : Arranged C starts lengths positions ends order m
   pub lows : Lows (drop m positions) (drop m ends) space′
-  pub frame : drop 4608 space′ ≡ drop 4608 space
+  pub frame : drop coreBytes space′ ≡ drop coreBytes space

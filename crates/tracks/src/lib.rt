@@ -3,6 +3,7 @@ ghost use mathlib.Core.Path.{_≡_};
 ghost use mathlib.Core.Bool.{true, false};
 ghost use Prim.Native.Nat.{ℕ, _≤_, _<_};
 ghost use lib.ListN.{length, drop, set};
+ghost use Rattle.line.specs.Cells.{cellBytes, coreBytes};
 ghost use Rattle.basics.specs.Lists.{at};
 ghost use Rattle.labels.specs.Labels.{place};
 ghost use Rattle.labels.specs.Permission.{permits, only};
@@ -10,6 +11,7 @@ ghost use Rattle.arcs.specs.Arcs.{Arcs, Assigned};
 ghost use Rattle.pairs.specs.Capped.{Ready};
 ghost use Rattle.tracks.specs.Tracks.{Lent, Most, Answered, Solved, Prepared};
 ghost use Rattle.tracks.specs.Narrowing.{Ordered, Chosen, Narrowed, Tried, RowReady};
+use basics::MAX_ROWS;
 
 // The order in which labels are tried: receiver 1, the other receiver, and last not heard.
 const FIRST: u8 = 1;
@@ -50,7 +52,7 @@ fn take_label(
     requires { ⌜ RowReady (now positions) (now ends) (now order) (now perms) m cap (now left) (now space) i ⌝ }
     requires { ⌜ label ≤ 2 ⌝ }
     ensures { λ r. ⌜ Tried (Ordered (now (positions .entry)) (now (ends .entry)) (now (order .entry))) cap (now (perms .entry)) i perm label (now (perms .exit)) r ⌝ }
-    ensures { λ r. ⌜ drop 4225 (now (space .exit)) ≡ drop 4225 (now (space .entry)) ⌝ }
+    ensures { λ r. ⌜ drop cellBytes (now (space .exit)) ≡ drop cellBytes (now (space .entry)) ⌝ }
 {
     if !labels::permission::may_have(perm, label) {
         return false;
@@ -78,7 +80,7 @@ fn narrow_row(
     requires { ⌜ RowReady (now positions) (now ends) (now order) (now perms) m cap (now left) (now space) i ⌝ }
     ensures { λ r. ⌜ Chosen (Ordered (now (positions .entry)) (now (ends .entry)) (now (order .entry))) cap (now (perms .entry)) i (at (now (perms .entry)) i) r ⌝ }
     ensures { λ r. ⌜ now (perms .exit) ≡ set (now (perms .entry)) i (only r) ⌝ }
-    ensures { λ r. ⌜ drop 4225 (now (space .exit)) ≡ drop 4225 (now (space .entry)) ⌝ }
+    ensures { λ r. ⌜ drop cellBytes (now (space .exit)) ≡ drop cellBytes (now (space .entry)) ⌝ }
 {
     let perm = perms[i];
     if take_label(
@@ -128,7 +130,7 @@ fn narrow(
 )
     requires { ⌜ Ready (now positions) (now ends) (now order) (now perms) m cap (now left) (now space) ⌝ }
     ensures { λ r. ⌜ Narrowed (Ordered (now (positions .entry)) (now (ends .entry)) (now (order .entry))) cap (now (perms .entry)) (length (now (perms .entry))) (now (perms .exit)) ⌝ }
-    ensures { λ r. ⌜ drop 4225 (now (space .exit)) ≡ drop 4225 (now (space .entry)) ⌝ }
+    ensures { λ r. ⌜ drop cellBytes (now (space .exit)) ≡ drop cellBytes (now (space .entry)) ⌝ }
 {
     let mut i: usize = 0;
     while i < perms.len() {
@@ -147,7 +149,7 @@ fn prepare(
 ) -> usize
     requires { ⌜ Arcs circle (now starts) (now lengths) ⌝ }
     requires { ⌜ length (now order) ≡ length (now starts) ⌝ }
-    requires { ⌜ 4608 ≤ length (now space) ⌝ }
+    requires { ⌜ coreBytes ≤ length (now space) ⌝ }
     ensures { λ m. ⌜ Prepared circle (now (starts .entry)) (now (lengths .entry)) (now (starts .exit)) (now (lengths .exit)) (now (order .exit)) m (now (space .entry)) (now (space .exit)) ⌝ }
 {
     let m = arcs::arrange(circle, starts, lengths, order);
@@ -169,7 +171,7 @@ fn solve_lent(
     requires { ⌜ Lent circle (now starts) (now lengths) (now perms) (now space) ⌝ }
     requires { ⌜ (length (now order) ≡ length (now starts)) × (length (now left) ≡ length (now starts)) ⌝ }
     ensures { λ r. ⌜ Solved (Assigned circle (now (starts .entry)) (now (lengths .entry)) (now (perms .entry))) narrowing r (now (perms .entry)) (now (perms .exit)) ⌝ }
-    ensures { λ r. ⌜ drop 4608 (now (space .exit)) ≡ drop 4608 (now (space .entry)) ⌝ }
+    ensures { λ r. ⌜ drop coreBytes (now (space .exit)) ≡ drop coreBytes (now (space .entry)) ⌝ }
 {
     let m = prepare(circle, starts, lengths, order, space);
     // no 64 rows reach the cap 66
@@ -194,10 +196,10 @@ fn solve(
 ) -> u8
     requires { ⌜ Lent circle (now starts) (now lengths) (now perms) (now space) ⌝ }
     ensures { λ r. ⌜ Solved (Assigned circle (now (starts .entry)) (now (lengths .entry)) (now (perms .entry))) narrowing r (now (perms .entry)) (now (perms .exit)) ⌝ }
-    ensures { λ r. ⌜ drop 4608 (now (space .exit)) ≡ drop 4608 (now (space .entry)) ⌝ }
+    ensures { λ r. ⌜ drop coreBytes (now (space .exit)) ≡ drop coreBytes (now (space .entry)) ⌝ }
 {
-    let mut order = [0u8; 64];
-    let mut left = [0u8; 64];
+    let mut order = [0u8; MAX_ROWS];
+    let mut left = [0u8; MAX_ROWS];
     let n = starts.len();
     solve_lent(
         circle,
@@ -221,7 +223,7 @@ pub fn best_assignment(
     space: &mut [u8],
 ) -> u8
     requires { ⌜ Lent circle (now starts) (now lengths) (now perms) (now space) ⌝ }
-    ensures { λ r. ⌜ Answered (Assigned circle (now (starts .entry)) (now (lengths .entry)) (now (perms .entry))) r (now (perms .exit)) × (drop 4608 (now (space .exit)) ≡ drop 4608 (now (space .entry))) ⌝ }
+    ensures { λ r. ⌜ Answered (Assigned circle (now (starts .entry)) (now (lengths .entry)) (now (perms .entry))) r (now (perms .exit)) × (drop coreBytes (now (space .exit)) ≡ drop coreBytes (now (space .entry))) ⌝ }
 {
     solve(circle, starts, lengths, perms, true, space)
 }
@@ -236,7 +238,7 @@ pub fn best_count(
     space: &mut [u8],
 ) -> u8
     requires { ⌜ Lent circle (now starts) (now lengths) (now perms) (now space) ⌝ }
-    ensures { λ r. ⌜ Most (Assigned circle (now (starts .entry)) (now (lengths .entry)) (now (perms .entry))) r × (drop 4608 (now (space .exit)) ≡ drop 4608 (now (space .entry))) ⌝ }
+    ensures { λ r. ⌜ Most (Assigned circle (now (starts .entry)) (now (lengths .entry)) (now (perms .entry))) r × (drop coreBytes (now (space .exit)) ≡ drop coreBytes (now (space .entry))) ⌝ }
     ensures { λ r. ⌜ now (perms .exit) ≡ now (perms .entry) ⌝ }
 {
     solve(circle, starts, lengths, perms, false, space)

@@ -116,9 +116,7 @@ fn plan(
     let n = at_most(places, labels.len());
     let m = at_most(bytes, space.len());
     planner::plan(
-        kind,
-        ticks,
-        hours,
+        table::setting_of(kind, ticks, hours),
         starts,
         ends,
         marks,
@@ -224,9 +222,7 @@ fn write(
 ) -> Answer {
     let n = at_most(bytes, tape.len());
     plan_tape::write_plan(
-        kind,
-        ticks,
-        hours,
+        table::setting_of(kind, ticks, hours),
         starts,
         ends,
         marks,

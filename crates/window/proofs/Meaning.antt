@@ -219,6 +219,11 @@ overlaps-iff kind R s e s′ e′ v w = (there, back)
         (λ h. rw (in-covers s′ e′ s h) (or-true (covers s e s′)))
         (share (in-iff kind R s e v (o .below) .1 (o .in-first)) (in-iff kind R s′ e′ w (o .below) .1 (o .in-second)))
 
+-- two windows with one start overlap
+pub overlaps-start : (s e e′ : ℕ) → overlaps s e s e′ ≡ true
+unfolding overlaps
+overlaps-start s e e′ = rw (in-covers s e s (start-in s e)) refl
+
 -- ---- what the functions promise, from what they compute
 
 pub covers-said : (r : Bool) (s e t : ℕ) → r ≡ covers s e t

@@ -1,4 +1,4 @@
-// Ticks and windows: how far a tick lies after a start, whether a window is proper, whether it covers a tick, whether two windows overlap.
+// Ticks, windows and rows: how far a tick lies after a start, whether a window is proper, whether it covers a tick, whether two windows overlap.
 ghost use mathlib.Core.Path.{_≡_};
 ghost use mathlib.Core.Logic.{_↔_};
 ghost use mathlib.Core.Bool.{true};
@@ -10,6 +10,13 @@ ghost use Rattle.window.specs.Windows.{Covers, Overlap, Window, isWindow
 pub enum Kind {
     Round,
     Run,
+}
+
+// "Row i has a start and an end (16-bit numbers) and a mark: 0 may be heard, 1 must be heard."
+pub struct Row {
+    pub start: u16,
+    pub end: u16,
+    pub mark: u8,
 }
 
 // How far `tick` lies after `start` on a circle of `ticks` ticks: a comparison and at most two sums, no division.

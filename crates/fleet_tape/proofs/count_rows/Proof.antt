@@ -4,7 +4,7 @@ use Prim.Native.Nat.{_-_, _≤_}
 use mathlib.Core.Path.{_≡_, sym, _∙_}
 use native.Mathlib.Omega.{arith}
 use lib.ListN.{length, drop}
-use Rattle.fleet_tape.specs.Form.{rowsOf}
+use Rattle.fleet_tape.specs.Form.{rowsIn}
 use Rattle.fleet_tape.specs.Scan.{counted}
 use Rattle.fleet_tape.proofs.Rows.{more, row-at, count-none, count-more, count-stop, count-broken}
 use borrow.Author.Needs.{needs}
@@ -12,7 +12,7 @@ use Rattle.fleet_tape.proofs.count_rows.Statement.{statement}
 use Rattle.fleet_tape.proofs.count_rows.Tie as tie
 
 abbrev Inv-loop : tie.InvT-loop
-Inv-loop tape from at₀ rows₀ at rows = (rows ≤ at) × (counted (rowsOf (drop from tape)) ≡ more rows (counted (rowsOf (drop at tape))))
+Inv-loop tape from at₀ rows₀ at rows = (rows ≤ at) × (counted (rowsIn (drop from tape)) ≡ more rows (counted (rowsIn (drop at tape))))
 
 abbrev μ-loop : tie.MeasureT-loop
 μ-loop tape from at₀ rows₀ at rows = length tape - at

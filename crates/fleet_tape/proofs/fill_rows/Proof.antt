@@ -7,8 +7,8 @@ use native.Mathlib.Omega.{arith}
 use lib.ListN.{drop, length-set}
 use lib.Seq.{sets}
 use Rattle.fleet_tape.specs.declared.Scanned.the-variants.{Count}
-use Rattle.fleet_tape.specs.Fleet.{startsOf, endsOf, marksOf}
-use Rattle.fleet_tape.specs.Form.{rowsOf}
+use Rattle.window.specs.Rows.{startsOf, endsOf, marksOf}
+use Rattle.fleet_tape.specs.Form.{rowsIn}
 use Rattle.fleet_tape.specs.Scan.{counted, listed, Places}
 use Rattle.fleet_tape.proofs.Rows.{Next, next-row, fill-more, fill-done, fill-all}
 use borrow.Author.Needs.{needs}
@@ -19,16 +19,16 @@ abbrev Inv-loop : tie.InvT-loop
 Inv-loop tape from rows starts₀ ends₀ marks₀ at₀ row₀ starts ends marks at row =
     (row ≤ rows)
     × Places starts ends marks
-    × (counted (rowsOf (drop at tape)) ≡ Count (rows - row))
-    × (sets starts₀ 0 (startsOf (listed (rowsOf (drop from tape)))) ≡ sets starts row (startsOf (listed (rowsOf (drop at tape)))))
-    × (sets ends₀ 0 (endsOf (listed (rowsOf (drop from tape)))) ≡ sets ends row (endsOf (listed (rowsOf (drop at tape)))))
-    × (sets marks₀ 0 (marksOf (listed (rowsOf (drop from tape)))) ≡ sets marks row (marksOf (listed (rowsOf (drop at tape)))))
+    × (counted (rowsIn (drop at tape)) ≡ Count (rows - row))
+    × (sets starts₀ 0 (startsOf (listed (rowsIn (drop from tape)))) ≡ sets starts row (startsOf (listed (rowsIn (drop at tape)))))
+    × (sets ends₀ 0 (endsOf (listed (rowsIn (drop from tape)))) ≡ sets ends row (endsOf (listed (rowsIn (drop at tape)))))
+    × (sets marks₀ 0 (marksOf (listed (rowsIn (drop from tape)))) ≡ sets marks row (marksOf (listed (rowsIn (drop at tape)))))
 
 abbrev μ-loop : tie.MeasureT-loop
 μ-loop tape from rows starts₀ ends₀ marks₀ at₀ row₀ starts ends marks at row = rows - row
 
 -- the row that a turn takes
-next : (s : List ℕ) (rows at row : ℕ) → counted (rowsOf (drop at s)) ≡ Count (rows - row) → row < rows → Next s at (rows - (row + 1))
+next : (s : List ℕ) (rows at row : ℕ) → counted (rowsIn (drop at s)) ≡ Count (rows - row) → row < rows → Next s at (rows - (row + 1))
 next s rows at row e h = next-row s at (rows - (row + 1)) (e ∙ ap Count (omega arith))
 
 loop-holds : tie.Need-loop-holds Inv-loop μ-loop
@@ -141,9 +141,9 @@ returns : tie.Need-returns Inv-loop μ-loop
 returns c =
     let l = c .before .loop in
     let a = c .before .before .before .before .before .before in
-    let o = rowsOf (drop (l .at) (a .args .tape .now)) in
+    let o = rowsIn (drop (l .at) (a .args .tape .now)) in
     let e : counted o ≡ Count 0 = l .inv .2 ∙ ap Count (omega arith) in
-    let all = rowsOf (drop (a .args .from) (a .args .tape .now)) in (
+    let all = rowsIn (drop (a .args .from) (a .args .tape .now)) in (
       sym (l .inv .3 ∙ fill-done (λ row. row .start) o (l .starts) (l .row) e) ∙ fill-all (λ row. row .start) all (a .args .rows) (a .args .starts .now) (a .pre .form) (omega (arith, a .pre)),
       (
         sym (l .inv .4 ∙ fill-done (λ row. row .end) o (l .ends) (l .row) e) ∙ fill-all (λ row. row .end) all (a .args .rows) (a .args .ends .now) (a .pre .form) (omega (arith, a .pre)),

@@ -3,7 +3,7 @@
 use mathlib.Core.Path.{_≡_, refl, sym, _∙_}
 use lib.ListN.{drop}
 use Rattle.fleet_tape.specs.declared.Scanned.the-variants.{Count, Broken}
-use Rattle.fleet_tape.specs.Form.{rowsOf}
+use Rattle.fleet_tape.specs.Form.{rowsIn}
 use Rattle.fleet_tape.specs.Scan.{counted}
 use Rattle.fleet_tape.proofs.Judged.{reading-same, read-broken, read-many, read-taken}
 use borrow.Author.Needs.{needs}
@@ -23,7 +23,7 @@ returns : tie.Need-returns
 returns c =
     let k = c .before .before .before in
     let a = k .before .before .before .before .before .before .before .args in
-    let o = rowsOf (drop (a .from) (a .tape .now)) in
+    let o = rowsIn (drop (a .from) (a .tape .now)) in
     let e : counted o ≡ Count (k .rows .given .0 .0) = sym (k .before .before .count-rows .ensures) ∙ k .rows .given .1 in
     reading-same (c .refuse .ensures) refl refl refl ∙ sym (read-many (a .kind) (a .ticks) (a .hours) (a .starts .now) (a .ends .now) (a .marks .now) o _ e (c .before .if1 .taken))
 
@@ -59,7 +59,7 @@ returns-2 c =
     let f = c .before .before .before .before .before .before .before in
     let k = f .before .before .before .before .before .before in
     let a = k .before .before .before .before .before .before .before .args in
-    let o = rowsOf (drop (a .from) (a .tape .now)) in
+    let o = rowsIn (drop (a .from) (a .tape .now)) in
     let e : counted o ≡ Count (k .rows .given .0 .0) = sym (k .before .before .count-rows .ensures) ∙ k .rows .given .1 in
     let w = f .fill-rows .ensures in
     reading-same (c .report-of .ensures) (w .0) (w .1 .0) (w .1 .1) ∙ sym (read-taken (a .kind) (a .ticks) (a .hours) (a .starts .now) (a .ends .now) (a .marks .now) o _ e (f .before .before .before .before .if1 .left))
@@ -68,7 +68,7 @@ returns-3 : tie.Need-returns-3
 returns-3 c =
     let k = c .before in
     let a = k .before .before .before .before .before .before .before .args in
-    let o = rowsOf (drop (a .from) (a .tape .now)) in
+    let o = rowsIn (drop (a .from) (a .tape .now)) in
     let e : counted o ≡ Broken = sym (k .before .before .count-rows .ensures) ∙ k .enum-told .given .1 in
     reading-same (c .refuse2 .ensures) refl refl refl ∙ sym (read-broken (a .kind) (a .ticks) (a .hours) (a .starts .now) (a .ends .now) (a .marks .now) o e)
 

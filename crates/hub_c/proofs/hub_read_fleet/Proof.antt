@@ -1,7 +1,7 @@
--- `hub_c::hub_read_fleet` meets its contract: the reader's reading, part by part.
-use mathlib.Core.Path.{_∙_, ap}
+-- `hub_c::hub_read_fleet` meets its contract: the reader's report is handed over, and the lists are the reader's.
+use mathlib.Core.Path.{ap}
 use borrow.Author.Needs.{needs}
-use Rattle.hub_c.specs.Handed.{handedReport}
+use Rattle.hub_c.specs.Handed.{handedRead}
 use Rattle.hub_c.proofs.hub_read_fleet.Statement.{statement}
 use Rattle.hub_c.proofs.hub_read_fleet.Tie as tie
 
@@ -21,9 +21,7 @@ same-length-3 : tie.Need-same-length-3
 same-length-3 c = search needs
 
 returns : tie.Need-returns
-returns c =
-    let read = c .before .before .before .before .before .before .before .read-fleet .ensures in
-    (c .hand-over-report .ensures ∙ ap (λ x. handedReport (x .report)) read, (ap (λ x. x .starts) read, (ap (λ x. x .ends) read, ap (λ x. x .marks) read)))
+returns c = rw (c .hand-over-report .ensures) (ap handedRead (c .before .before .before .before .before .before .before .read-fleet .ensures))
 
 pub hub-read-fleet-spec : {M : Type 1} → statement M
 hub-read-fleet-spec =

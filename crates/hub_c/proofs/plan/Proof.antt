@@ -1,8 +1,7 @@
 -- `hub_c::plan` meets its contract: the planner's answer is handed over, labels and working space are the planner's.
-use mathlib.Core.Path.{_∙_, ap}
+use mathlib.Core.Path.{ap}
 use borrow.Author.Needs.{needs}
-use Rattle.table.specs.Planned.{spaceAfter}
-use Rattle.hub_c.specs.Handed.{handed}
+use Rattle.hub_c.specs.Handed.{handedPlan}
 use Rattle.hub_c.proofs.plan.Statement.{statement}
 use Rattle.hub_c.proofs.plan.Tie as tie
 
@@ -19,10 +18,7 @@ same-length-2 : tie.Need-same-length-2
 same-length-2 c = search needs
 
 returns : tie.Need-returns
-returns c =
-    let planned = c .before .before .before .before .before .plan .ensures in
-    let space = c .before .before .before .before .before .before .before .before .before .before .before .before .before .args .space .now in
-    (c .hand-over .ensures ∙ ap handed (planned .0), (planned .1 .0, planned .1 .1 .0 ∙ ap (λ a. spaceAfter (a .refusal) space) (planned .0)))
+returns c = rw (c .hand-over .ensures) (ap handedPlan (c .before .before .before .before .before .plan .ensures .0))
 
 pub plan-spec : {M : Type 1} → statement M
 plan-spec =

@@ -1,7 +1,7 @@
 -- `hub_c::write_plan` meets its contract: the writer's answer is handed over, and the buffer is the writer's.
-use mathlib.Core.Path.{_∙_, ap}
+use mathlib.Core.Path.{ap}
 use borrow.Author.Needs.{needs}
-use Rattle.hub_c.specs.Handed.{handed}
+use Rattle.hub_c.specs.Handed.{handedTape}
 use Rattle.hub_c.proofs.write_plan.Statement.{statement}
 use Rattle.hub_c.proofs.write_plan.Tie as tie
 
@@ -15,9 +15,7 @@ same-length : tie.Need-same-length
 same-length c = search needs
 
 returns : tie.Need-returns
-returns c =
-    let written = c .before .before .before .write-plan .ensures in
-    (c .hand-over .ensures ∙ ap handed (written .0), written .1)
+returns c = rw (c .hand-over .ensures) (ap handedTape (c .before .before .before .write-plan .ensures))
 
 pub write-plan-spec : {M : Type 1} → statement M
 write-plan-spec = tie.close (tie.spec write-plan-requires hand-over-requires same-length returns)

@@ -5,6 +5,7 @@ use native.Mathlib.Nat.{le-refl}
 use native.Mathlib.Omega.{arith}
 use lib.ListN.{length, drop, length-set, List·getD-eq-default}
 use lib.Seq.{drop-set-lt}
+use Rattle.line.specs.Cells.{cellBytes}
 use Rattle.line.specs.Stage.{startAt, Holds}
 use Rattle.basics.proofs.Lists.{getD-any}
 use Rattle.line.proofs.Turns.{holds-first, holds-small, holds-step, holds-last, turn}
@@ -13,7 +14,7 @@ use Rattle.line.proofs.line_best.Tie as tie
 
 abbrev Inv-loop : tie.InvT-loop
 Inv-loop starts ends perms space₀ next₀ k₀ space next k =
-    (k ≤ length starts) × (length space ≡ length space₀) × (drop 4225 space ≡ drop 4225 space₀) × (next ≡ startAt starts k) × Holds starts ends perms k space
+    (k ≤ length starts) × (length space ≡ length space₀) × (drop cellBytes space ≡ drop cellBytes space₀) × (next ≡ startAt starts k) × Holds starts ends perms k space
 
 abbrev μ-loop : tie.MeasureT-loop
 μ-loop starts ends perms space₀ next₀ k₀ space next k = k
@@ -60,7 +61,7 @@ fill-stage-requires c κs =
     let es = g .args .ends .now in
     let ps = g .args .perms .now in
     let t = g .args .space .now in (
-      rw (c .before .before .wide .ensures) (turn ss es ps t (l .space) (l .k - 1) (g .pre .0) (g .pre .1) (l .inv .2 ∙ drop-set-lt 4225 t 0 1 (omega arith)) (omega arith)),
+      rw (c .before .before .wide .ensures) (turn ss es ps t (l .space) (l .k - 1) (g .pre .0) (g .pre .1) (l .inv .2 ∙ drop-set-lt cellBytes t 0 1 (omega arith)) (omega arith)),
       omega (arith, length-set t 0 1),
       holds-small ss es ps (g .pre .0) _ (l .k) (l .space) (omega arith) (omega arith) (l .inv .4) _ (l .inv .3),
     )
@@ -92,7 +93,7 @@ returns c =
     let g = c .before .before .before .before .before .before .before in
     let l = c .before .before .loop in (
       holds-last (g .args .starts .now) (g .args .ends .now) (g .args .perms .now) (g .pre .0) (l .k) (l .space) (omega arith) (l .inv .4),
-      l .inv .2 ∙ drop-set-lt 4225 (g .args .space .now) 0 1 (omega arith),
+      l .inv .2 ∙ drop-set-lt cellBytes (g .args .space .now) 0 1 (omega arith),
     )
 
 pub line-best-spec : {M : Type 1} → statement M

@@ -14,6 +14,9 @@ hours-of-requires c κs = search needs
 at-most-requires : tie.Need-at-most-requires
 at-most-requires c κs = search needs
 
+setting-of-requires : tie.Need-setting-of-requires
+setting-of-requires c κs = search needs
+
 words-requires : tie.Need-words-requires
 words-requires c κs = search needs
 
@@ -30,7 +33,7 @@ slice-relend-prefix-write-plan : tie.Need-slice-relend-prefix-write-plan
 slice-relend-prefix-write-plan c = search needs
 
 slice-aggregate-write-plan : tie.Need-slice-aggregate-write-plan
-slice-aggregate-write-plan c = sym (length-take-le (c .before .before .before .before .before .before .before .before .before .at-most .result) (c .before .before .before .before .before .before .before .before .before .before .before .before .before .before .args .tape .now) (c .before .before .before .before .before .before .before .before .before .at-most .ensures))
+slice-aggregate-write-plan c = sym (length-take-le (c .before .before .before .before .before .before .before .before .before .before .at-most .result) (c .before .before .before .before .before .before .before .before .before .before .before .before .before .before .before .args .tape .now) (c .before .before .before .before .before .before .before .before .before .before .at-most .ensures))
 
 write-plan-requires : tie.Need-write-plan-requires
 write-plan-requires c κs = search needs
@@ -48,6 +51,7 @@ write-lists-spec =
     kind-of-requires
     hours-of-requires
     at-most-requires
+    setting-of-requires
     words-requires
     words-requires-2
     bytes-requires

@@ -11,16 +11,15 @@ use Rattle.planner.proofs.clear_space.Statement.{statement}
 use Rattle.planner.proofs.clear_space.Tie as tie
 
 abbrev Inv-loop : tie.InvT-loop
-Inv-loop space₀ i₀ space i = (i ≤ 16384) × (length space ≡ length space₀) × (space ≡ replicate i 0 ++ drop i space₀)
+Inv-loop space₀ i₀ space i = (i ≤ spaceBytes) × (length space ≡ length space₀) × (space ≡ replicate i 0 ++ drop i space₀)
 
 abbrev μ-loop : tie.MeasureT-loop
-μ-loop space₀ i₀ space i = 16384 - i
+μ-loop space₀ i₀ space i = spaceBytes - i
 
 loop-holds : tie.Need-loop-holds Inv-loop μ-loop
 loop-holds c = search needs
 
 slice-write-space : tie.Need-slice-write-space Inv-loop μ-loop
-unfolding spaceBytes
 slice-write-space c = omega arith
 
 add-i : tie.Need-add-i Inv-loop μ-loop
@@ -30,7 +29,6 @@ loop-less : tie.Need-loop-less Inv-loop μ-loop
 loop-less c = omega arith
 
 loop-again : tie.Need-loop-again Inv-loop μ-loop
-unfolding spaceBytes
 loop-again c =
     let l = c .before .loop in
     let h : l .i < length (c .before .before .args .space .now) = omega arith in
@@ -40,10 +38,9 @@ same-length : tie.Need-same-length Inv-loop μ-loop
 same-length c = c .before .loop .inv .1
 
 returns : tie.Need-returns Inv-loop μ-loop
-unfolding spaceBytes
 returns c =
     let l = c .before .loop in
-    let e : l .i ≡ 16384 = omega arith in
+    let e : l .i ≡ spaceBytes = omega arith in
     subst (λ (n : ℕ). l .space ≡ replicate n 0 ++ drop n (c .before .before .args .space .now)) e (l .inv .2)
 
 pub clear-space-spec : {M : Type 1} → statement M

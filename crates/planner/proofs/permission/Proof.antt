@@ -1,5 +1,5 @@
 -- `planner::permission` meets its contract.
-use Rattle.planner.specs.Turned.{permissionOf}
+use Rattle.planner.specs.Rows.{permissionOf}
 use borrow.Author.Needs.{needs}
 use Rattle.planner.proofs.permission.Statement.{statement}
 use Rattle.planner.proofs.permission.Tie as tie
@@ -23,4 +23,9 @@ returns c = rw (← c .before .before .before .is-allowed .ensures, ← c .befor
 pub permission-spec : {M : Type 1} → statement M
 permission-spec =
     tie.close
-    (tie.spec is-allowed-requires is-allowed-requires-2 is-allowed-requires-3 permission-of-requires returns)
+    (tie.spec
+    is-allowed-requires
+    is-allowed-requires-2
+    is-allowed-requires-3
+    permission-of-requires
+    returns)

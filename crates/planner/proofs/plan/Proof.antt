@@ -1,7 +1,7 @@
--- `planner::plan` meets its contract: each way through the checks is a way to compute `planned`.
-use Rattle.table.specs.Tables.{table}
+-- `planner::plan` meets its contract: each way through the checks is a way to compute `planCall`.
 use Rattle.planner.proofs.Answering.{lists-refuses, space-refuses, table-checked, refused-said, ready, answer-said}
-use Rattle.table.specs.Planned.{spaceBytes}
+use Rattle.table.specs.declared.Looked.{Looked}
+use Rattle.table.specs.Tables.{table}
 use Rattle.refusals.specs.Refusals.{numberOf}
 use Rattle.refusals.specs.declared.Refusal.the-variants.{Space}
 use mathlib.Core.Path.{_≡_, _∙_, sym, ap}
@@ -21,10 +21,10 @@ refused-requires c κs = search needs
 
 returns : tie.Need-returns
 returns c =
-    let g = c .before .before .before .before .before .before .before .before .before .args in
-    let t = table (g .kind) (g .ticks) (g .hours) (g .starts .now) (g .ends .now) (g .marks .now) in
-    let b = g .labels .now in
-    let s = g .space .now in
+    let begun = c .before .before .before .before .before .before .before .before .before .args in
+    let t = table (begun .setting) (begun .starts .now) (begun .ends .now) (begun .marks .now) in
+    let b = begun .labels .now in
+    let s = begun .space .now in
     let l = c .before .before .before .check-lists in
     let n : numberOf (l .result) ≡ 0 → ⊥ = λ z. c .before .if1 .taken (c .before .before .number .ensures ∙ z) in
     refused-said t b s (l .result) (c .refused .result) (c .refused .ensures) (l .ensures ∙ lists-refuses t b s (λ z. n (ap numberOf (l .ensures) ∙ z))) n
@@ -33,16 +33,12 @@ refused-requires-2 : tie.Need-refused-requires-2
 refused-requires-2 c κs = search needs
 
 returns-2 : tie.Need-returns-2
-unfolding spaceBytes
 returns-2 c =
-    let g = c .before .before .before .before .before .before .before .before .before .before .args in
-    let t = table (g .kind) (g .ticks) (g .hours) (g .starts .now) (g .ends .now) (g .marks .now) in
-    let b = g .labels .now in
-    let s = g .space .now in
-    let l = c .before .before .before .before .check-lists in
-    refused-said t b s Space (c .refused2 .result) (c .refused2 .ensures)
-    (space-refuses t b s (sym (ap numberOf (l .ensures)) ∙ sym (c .before .before .before .number .ensures) ∙ c .before .before .if1 .left) (c .before .if2 .taken))
-    (λ z. omega arith)
+    let begun = c .before .before .before .before .before .before .before .before .before .before .args in
+    let t = table (begun .setting) (begun .starts .now) (begun .ends .now) (begun .marks .now) in
+    let b = begun .labels .now in
+    let s = begun .space .now in
+    refused-said t b s Space (c .refused2 .result) (c .refused2 .ensures) (space-refuses t b s (sym (ap numberOf (c .before .before .before .before .check-lists .ensures)) ∙ sym (c .before .before .before .number .ensures) ∙ c .before .before .if1 .left) (c .before .if2 .taken)) (λ z. omega arith)
 
 check-table-requires : tie.Need-check-table-requires
 check-table-requires c κs = search needs
@@ -54,35 +50,29 @@ refused-requires-3 : tie.Need-refused-requires-3
 refused-requires-3 c κs = search needs
 
 returns-3 : tie.Need-returns-3
-unfolding spaceBytes
 returns-3 c =
-    let g = c .before .before .before .before .before .before .before .before .before .before .before .before .before .args in
-    let t = table (g .kind) (g .ticks) (g .hours) (g .starts .now) (g .ends .now) (g .marks .now) in
-    let b = g .labels .now in
-    let s = g .space .now in
-    let l = c .before .before .before .before .before .before .before .check-lists in
+    let begun = c .before .before .before .before .before .before .before .before .before .before .before .before .before .args in
+    let t = table (begun .setting) (begun .starts .now) (begun .ends .now) (begun .marks .now) in
+    let b = begun .labels .now in
+    let s = begun .space .now in
     let k = c .before .before .before .check-table in
     let n : numberOf (k .result .refusal) ≡ 0 → ⊥ = λ z. c .before .if3 .taken (c .before .before .number2 .ensures ∙ z) in
     refused-said t b s (k .result .refusal) (c .refused3 .result) (c .refused3 .ensures)
-    (ap (λ x. x .refusal) (k .ensures) ∙ table-checked t b s (sym (ap numberOf (l .ensures)) ∙ sym (c .before .before .before .before .before .before .number .ensures) ∙ c .before .before .before .before .before .if1 .left) (c .before .before .before .before .if2 .left))
-    n
+    (ap (λ (x : Looked). x .refusal) (k .ensures) ∙ table-checked t b s (sym (ap numberOf (c .before .before .before .before .before .before .before .check-lists .ensures)) ∙ sym (c .before .before .before .before .before .before .number .ensures) ∙ c .before .before .before .before .before .if1 .left) (c .before .before .before .before .if2 .left)) n
 
 plan-checked-requires : tie.Need-plan-checked-requires
-unfolding spaceBytes
 plan-checked-requires c κs =
-    let g = c .before .before .before .before .before .before .before .before .before .before .before .before .before .before .args in
-    let t = table (g .kind) (g .ticks) (g .hours) (g .starts .now) (g .ends .now) (g .marks .now) in
-    let b = g .labels .now in
-    let s = g .space .now in
-    let l = c .before .before .before .before .before .before .before .before .check-lists in
-    let k = c .before .before .before .before .check-table in
-    ready t b s
-    (sym (ap numberOf (ap (λ x. x .refusal) (k .ensures) ∙ table-checked t b s (sym (ap numberOf (l .ensures)) ∙ sym (c .before .before .before .before .before .before .before .number .ensures) ∙ c .before .before .before .before .before .before .if1 .left) (c .before .before .before .before .before .if2 .left)))
-    ∙ sym (c .before .before .before .number2 .ensures) ∙ c .before .before .if3 .left)
-    (c .before .before .before .before .before .if2 .left)
+    let begun = c .before .before .before .before .before .before .before .before .before .before .before .before .before .before .args in
+    let t = table (begun .setting) (begun .starts .now) (begun .ends .now) (begun .marks .now) in
+    let b = begun .labels .now in
+    let s = begun .space .now in
+    let lists = sym (ap numberOf (c .before .before .before .before .before .before .before .before .check-lists .ensures)) ∙ sym (c .before .before .before .before .before .before .before .number .ensures) ∙ c .before .before .before .before .before .before .if1 .left in
+    let room = c .before .before .before .before .before .if2 .left in
+    let looked = ap (λ (x : Looked). x .refusal) (c .before .before .before .before .check-table .ensures) in
+    let passed = sym (ap numberOf (looked ∙ table-checked t b s lists room)) ∙ sym (c .before .before .before .number2 .ensures) ∙ c .before .before .if3 .left in
+    ready t b s passed room
 
 clear-space-requires : tie.Need-clear-space-requires
-unfolding spaceBytes
 clear-space-requires c κs = omega (arith, c .before .before .before .before .before .before .before .before .before .before .before .if2 .left, c .before .before .before .before .before .plan-checked .kept)
 
 same-length : tie.Need-same-length
@@ -92,19 +82,17 @@ same-length-2 : tie.Need-same-length-2
 same-length-2 c = search needs
 
 returns-4 : tie.Need-returns-4
-unfolding spaceBytes
 returns-4 c =
-    let g = c .before .before .before .before .before .before .before .before .before .before .before .before .before .before .before .before .before .before .before .before .before .before .before .args in
-    let t = table (g .kind) (g .ticks) (g .hours) (g .starts .now) (g .ends .now) (g .marks .now) in
-    let b = g .labels .now in
-    let s = g .space .now in
-    let l = c .before .before .before .before .before .before .before .before .before .before .before .before .before .before .before .before .before .check-lists in
-    let k = c .before .before .before .before .before .before .before .before .before .before .before .before .before .check-table in
-    let p = c .before .before .before .before .before .before .before .before .plan-checked .ensures in
-    answer-said t b s
-    (sym (ap numberOf (ap (λ x. x .refusal) (k .ensures) ∙ table-checked t b s (sym (ap numberOf (l .ensures)) ∙ sym (c .before .before .before .before .before .before .before .before .before .before .before .before .before .before .before .before .number .ensures) ∙ c .before .before .before .before .before .before .before .before .before .before .before .before .before .before .before .if1 .left) (c .before .before .before .before .before .before .before .before .before .before .before .before .before .before .if2 .left)))
-    ∙ sym (c .before .before .before .before .before .before .before .before .before .before .before .before .number2 .ensures) ∙ c .before .before .before .before .before .before .before .before .before .before .before .if3 .left)
-    _ _ (c .before .before .before .before .before .before .before .before .plan-checked .last .1 .1 .1 .1 .1 .1 .1 .0) _ (p .0) (p .1 .0) (p .1 .1) (c .before .before .clear-space .ensures)
+    let begun = c .before .before .before .before .before .before .before .before .before .before .before .before .before .before .before .before .before .before .before .before .before .before .before .args in
+    let t = table (begun .setting) (begun .starts .now) (begun .ends .now) (begun .marks .now) in
+    let b = begun .labels .now in
+    let s = begun .space .now in
+    let lists = sym (ap numberOf (c .before .before .before .before .before .before .before .before .before .before .before .before .before .before .before .before .before .check-lists .ensures)) ∙ sym (c .before .before .before .before .before .before .before .before .before .before .before .before .before .before .before .before .number .ensures) ∙ c .before .before .before .before .before .before .before .before .before .before .before .before .before .before .before .if1 .left in
+    let room = c .before .before .before .before .before .before .before .before .before .before .before .before .before .before .if2 .left in
+    let looked = ap (λ (x : Looked). x .refusal) (c .before .before .before .before .before .before .before .before .before .before .before .before .before .check-table .ensures) in
+    let passed = sym (ap numberOf (looked ∙ table-checked t b s lists room)) ∙ sym (c .before .before .before .before .before .before .before .before .before .before .before .before .number2 .ensures) ∙ c .before .before .before .before .before .before .before .before .before .before .before .if3 .left in
+    let p = c .before .before .before .before .before .before .before .before .plan-checked in
+    answer-said t b s passed _ _ (p .last .1 .1 .1 .1 .1 .0) _ (p .ensures .0) (p .ensures .1) (c .before .before .clear-space .ensures)
 
 pub plan-spec : {M : Type 1} → statement M
 plan-spec =

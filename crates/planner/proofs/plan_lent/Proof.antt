@@ -1,23 +1,30 @@
--- `planner::plan_lent` meets its contract: the core answers for the arcs and permissions that the rows are turned into.
+-- `planner::plan_lent` meets its contract: the core answers for the arcs and permissions of the rows.
 use Rattle.planner.proofs.Answering.{none-given, one-given}
-use Rattle.planner.proofs.Turning.{turned-arcs}
-use mathlib.Core.Path.{_∙_, sym}
+use Rattle.planner.proofs.Rows.{arcs-within}
+use Rattle.table.specs.Planned.{answering}
+use mathlib.Core.Path.{_∙_, sym, ap}
 use borrow.Author.Needs.{needs}
 use Rattle.planner.proofs.plan_lent.Statement.{statement}
 use Rattle.planner.proofs.plan_lent.Tie as tie
 
-turn-requires : tie.Need-turn-requires
-turn-requires c κs = search needs
+set-arcs-requires : tie.Need-set-arcs-requires
+set-arcs-requires c κs = search needs
+
+circle-of-requires : tie.Need-circle-of-requires
+circle-of-requires c κs = search needs
 
 best-assignment-requires : tie.Need-best-assignment-requires
 best-assignment-requires c κs =
-    let g = c .before .before .before .before .before .before .before .before .before .before .before .before .before .before .before .before .before .before .before .before .before .before in
-    let turned = c .before .before .before .before .before .before .before .before .before .before .turn .ensures in
+    let begun = c .before .before .before .before .before .before .before .before .before .before .before .before .before .before .before .before .before .before .before .before .before .before .before in
+    let arcs = c .before .before .before .before .before .before .before .before .before .before .before .set-arcs .ensures in
     record {
-      arcs = turned-arcs _ (g .pre .0 .valid) turned;
-      each-perm = turned .each-perm ∙ sym (turned .each-start);
-      room = g .pre .0 .room;
+      arcs = rw (c .before .before .before .before .circle-of .ensures) (arcs-within _ (begun .pre .0 .valid) arcs);
+      each-perm = arcs .lists .each-perm ∙ sym (arcs .lists .each-start);
+      room = begun .pre .0 .room;
     }
+
+refused-requires : tie.Need-refused-requires
+refused-requires c κs = search needs
 
 same-length : tie.Need-same-length
 same-length c = search needs
@@ -33,16 +40,16 @@ same-length-4 c = search needs
 
 returns : tie.Need-returns
 returns c =
-    let g = c .before .before .before .before .before .before .before .before .before .before .before .before .before .before .before .before .before .before .before .before .before .before .before .before .before .before .before .before .before .before .before .before in
-    let core = c .before .before .before .before .before .before .before .before .before .best-assignment .ensures in
-    let said = none-given _ (g .pre .0 .valid) (g .args .labels .now) (c .before .before .before .before .before .before .before .before .before .before .before .before .before .before .before .before .before .before .before .before .turn .ensures) (core .0) (c .if1 .taken) in
-    (said .0, (said .1, core .1))
+    let begun = c .before .before .before .before .before .before .before .before .before .before .before .before .before .before .before .before .before .before .before .before .before .before .before .before .before .before .before .before .before .before .before .before .before .before in
+    let core = c .before .before .before .before .before .before .before .before .before .before .best-assignment .ensures in
+    let said = none-given _ (begun .pre .0 .valid) (begun .args .labels .now) (c .before .before .before .before .before .before .before .before .before .before .before .before .before .before .before .before .before .before .before .before .before .before .set-arcs .ensures) (rw (c .before .before .before .before .before .before .before .before .before .before .before .before .before .before .before .circle-of .ensures) at (core .0)) (c .before .if1 .taken) in
+    (ap (λ a. answering a (begun .args .labels .now)) (c .refused .ensures) ∙ said, core .1)
 
 set-labels-requires : tie.Need-set-labels-requires
 set-labels-requires c κs =
-    let g = c .before .before .before .before .before .before .before .before .before .before .before .before .before .before .before .before .before .before .before .before .before .before .before .before .before .before .before .before .before .before .before .before .before .before in
+    let begun = c .before .before .before .before .before .before .before .before .before .before .before .before .before .before .before .before .before .before .before .before .before .before .before .before .before .before .before .before .before .before .before .before .before .before .before in
     let core = c .before .before .before .before .before .before .before .before .before .before .before .best-assignment in
-    g .pre .0 .each-label ∙ sym (c .before .before .before .before .before .before .before .before .before .before .before .before .before .before .before .before .before .before .before .before .before .before .turn .ensures .each-perm) ∙ sym (core .kept .1 .1 .1 .0)
+    begun .pre .0 .each-label ∙ sym (c .before .before .before .before .before .before .before .before .before .before .before .before .before .before .before .before .before .before .before .before .before .before .before .set-arcs .ensures .lists .each-perm) ∙ sym (core .kept .1 .1 .1 .0)
 
 sub-count : tie.Need-sub-count
 sub-count c = search needs
@@ -67,17 +74,19 @@ same-length-9 c = search needs
 
 returns-2 : tie.Need-returns-2
 returns-2 c =
-    let g = c .before .before .before .before .before .before .before .before .before .before .before .before .before .before .before .before .before .before .before .before .before .before .before .before .before .before .before .before .before .before .before .before .before .before .before .before .before in
+    let begun = c .before .before .before .before .before .before .before .before .before .before .before .before .before .before .before .before .before .before .before .before .before .before .before .before .before .before .before .before .before .before .before .before .before .before .before .before .before .before in
     let core = c .before .before .before .before .before .before .before .before .before .before .before .before .before .before .best-assignment .ensures in
-    let said = one-given _ (g .pre .0 .valid) (g .args .labels .now) (c .before .before .before .before .before .before .before .before .before .before .before .before .before .before .before .before .before .before .before .before .before .before .before .before .before .turn .ensures) (core .0) (c .before .before .before .before .before .if1 .left) _ (c .before .before .set-labels .ensures) in
-    (said .0, (said .1, core .1))
+    let said = one-given _ (begun .pre .0 .valid) (begun .args .labels .now) (c .before .before .before .before .before .before .before .before .before .before .before .before .before .before .before .before .before .before .before .before .before .before .before .before .before .before .set-arcs .ensures) (rw (c .before .before .before .before .before .before .before .before .before .before .before .before .before .before .before .before .before .before .before .circle-of .ensures) at (core .0)) (c .before .before .before .before .before .if1 .left) _ (c .before .before .set-labels .ensures) in
+    (said, core .1)
 
 pub plan-lent-spec : {M : Type 1} → statement M
 plan-lent-spec =
     tie.close
     (tie.spec
-    turn-requires
+    set-arcs-requires
+    circle-of-requires
     best-assignment-requires
+    refused-requires
     same-length
     same-length-2
     same-length-3

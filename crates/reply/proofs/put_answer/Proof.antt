@@ -2,7 +2,7 @@
 use mathlib.Core.Path.{sym, _∙_}
 use native.Mathlib.Omega.{arith}
 use Rattle.reply.specs.Lines.{heardWord}
-use Rattle.reply.specs.Room.{answerOf}
+use Rattle.table.specs.Planned.{answering}
 use Rattle.basics.proofs.Puts.{put-text, put-then, put-length}
 use Rattle.reply.proofs.Putting.{word-length}
 use Rattle.reply.proofs.Replying.{printed-heard, printed-refused}
@@ -22,7 +22,7 @@ same-length c = search needs
 returns : tie.Need-returns
 returns c =
     let a = c .before .before .before .before .before .before .before .before .args in
-    put-text (sym (printed-refused (answerOf (a .answer) (a .labels .now)) (λ z. c .before .before .before .before .if1 .taken (c .before .before .before .before .before .number .ensures ∙ z)))) (c .before .before .put-refused .ensures)
+    put-text (sym (printed-refused (answering (a .answer) (a .labels .now)) (λ z. c .before .before .before .before .if1 .taken (c .before .before .before .before .before .number .ensures ∙ z)))) (c .before .before .put-refused .ensures)
 
 slice-aggregate-put-word : tie.Need-slice-aggregate-put-word
 slice-aggregate-put-word c = search needs
@@ -49,7 +49,7 @@ returns-2 : tie.Need-returns-2
 returns-2 c =
     let a = c .before .before .before .before .before .before .before .before .before .before .before .before .before .args in
     let z = sym (c .before .before .before .before .before .before .before .before .before .before .number .ensures) ∙ c .before .before .before .before .before .before .before .before .before .if1 .left in
-    put-text (sym (printed-heard (answerOf (a .answer) (a .labels .now)) z)) (put-then (c .before .before .before .before .before .before .put-word .ensures) (c .before .before .put-rows .ensures))
+    put-text (sym (printed-heard (answering (a .answer) (a .labels .now)) z)) (put-then (c .before .before .before .before .before .before .put-word .ensures) (c .before .before .put-rows .ensures))
 
 pub put-answer-spec : {M : Type 1} → statement M
 put-answer-spec =

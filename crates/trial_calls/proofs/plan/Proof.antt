@@ -12,6 +12,9 @@ at-most-requires c κs = search needs
 at-most-requires-2 : tie.Need-at-most-requires-2
 at-most-requires-2 c κs = search needs
 
+setting-of-requires : tie.Need-setting-of-requires
+setting-of-requires c κs = search needs
+
 slice-relend-prefix-plan : tie.Need-slice-relend-prefix-plan
 slice-relend-prefix-plan c = search needs
 
@@ -42,6 +45,7 @@ plan-spec =
     (tie.spec
     at-most-requires
     at-most-requires-2
+    setting-of-requires
     slice-relend-prefix-plan
     slice-aggregate-plan
     slice-relend-prefix-plan-2

@@ -9,6 +9,9 @@ use Rattle.trial_calls.proofs.write.Tie as tie
 at-most-requires : tie.Need-at-most-requires
 at-most-requires c κs = search needs
 
+setting-of-requires : tie.Need-setting-of-requires
+setting-of-requires c κs = search needs
+
 slice-relend-prefix-write-plan : tie.Need-slice-relend-prefix-write-plan
 slice-relend-prefix-write-plan c = search needs
 
@@ -29,6 +32,7 @@ write-spec =
     tie.close
     (tie.spec
     at-most-requires
+    setting-of-requires
     slice-relend-prefix-write-plan
     slice-aggregate-write-plan
     write-plan-requires

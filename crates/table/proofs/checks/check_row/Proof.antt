@@ -15,11 +15,11 @@ returns c = simp (sym (c .before .is-window .ensures), not-true (c .before .is-w
 
 returns-2 : tie.Need-returns-2
 unfolding rowRefusal
-returns-2 c = simp (sym (c .before .before .is-window .ensures), not-false (c .before .before .is-window .result) (c .before .if1 .left), lt-leb _ _ (c .if2 .taken))
+returns-2 c = simp (sym (c .before .before .before .is-window .ensures), not-false (c .before .before .before .is-window .result) (c .before .before .if1 .left), lt-leb _ _ (c .if2 .taken))
 
 returns-3 : tie.Need-returns-3
 unfolding rowRefusal
-returns-3 c = simp (sym (c .before .before .is-window .ensures), not-false (c .before .before .is-window .result) (c .before .if1 .left), le-leb _ _ (c .if2 .left))
+returns-3 c = simp (sym (c .before .before .before .is-window .ensures), not-false (c .before .before .before .is-window .result) (c .before .before .if1 .left), le-leb _ _ (c .if2 .left))
 
 pub check-row-spec : {M : Type 1} → statement M
 check-row-spec = tie.close (tie.spec is-window-requires returns returns-2 returns-3)

@@ -1,5 +1,7 @@
 -- `table::checks::check_rows` meets its contract: while it goes on, the rows from i on are still to be looked at.
 use Rattle.table.proofs.Looking.{Ahead, uneven-ends, uneven-marks, ahead-all, ahead-refused, ahead-more, ahead-done}
+use Rattle.table.specs.Tables.{table}
+use Rattle.table.specs.Checks.{rowRefusal}
 use Rattle.refusals.specs.Refusals.{numberOf}
 use lib.ListN.{length}
 use borrow.Author.Needs.{needs}
@@ -10,34 +12,31 @@ use Rattle.table.proofs.checks.check_rows.Statement.{statement}
 use Rattle.table.proofs.checks.check_rows.Tie as tie
 
 abbrev Inv-loop : tie.InvT-loop
-Inv-loop kind ticks starts ends marks i₀ i = (i ≤ length starts) × (length ends ≡ length starts) × (length marks ≡ length starts) × Ahead kind ticks starts ends marks i
+Inv-loop setting starts ends marks i₀ i =
+    (i ≤ length starts) × (length ends ≡ length starts) × (length marks ≡ length starts) × Ahead (table setting starts ends marks) i
 
 abbrev μ-loop : tie.MeasureT-loop
-μ-loop kind ticks starts ends marks i₀ i = length starts - i
+μ-loop setting starts ends marks i₀ i = length starts - i
+
+looked-at-requires : tie.Need-looked-at-requires Inv-loop μ-loop
+looked-at-requires c κs = search needs
 
 returns : tie.Need-returns Inv-loop μ-loop
-returns c = uneven-ends _ _ _ _ _ (c .if1 .taken)
+returns c = c .looked-at .ensures ∙ uneven-ends _ (c .before .if1 .taken)
+
+looked-at-requires-2 : tie.Need-looked-at-requires-2 Inv-loop μ-loop
+looked-at-requires-2 c κs = search needs
 
 returns-2 : tie.Need-returns-2 Inv-loop μ-loop
-returns-2 c = uneven-marks _ _ _ _ _ (c .before .if1 .left) (c .if2 .taken)
+returns-2 c = c .looked-at2 .ensures ∙ uneven-marks _ (c .before .before .if1 .left) (c .before .if2 .taken)
 
 loop-holds : tie.Need-loop-holds Inv-loop μ-loop
-loop-holds c = (omega arith, c .before .if1 .left, c .if2 .left, ahead-all _ _ _ _ _ (c .before .if1 .left) (c .if2 .left))
+loop-holds c = (omega arith, c .before .if1 .left, c .if2 .left, ahead-all _ (c .before .if1 .left) (c .if2 .left))
 
-mul-check-row : tie.Need-mul-check-row Inv-loop μ-loop
-mul-check-row c = omega arith
-
-shared-slice-read-check-row : tie.Need-shared-slice-read-check-row Inv-loop μ-loop
-shared-slice-read-check-row c = omega arith
-
-mul-check-row-2 : tie.Need-mul-check-row-2 Inv-loop μ-loop
-mul-check-row-2 c = omega arith
-
-shared-slice-read-check-row-2 : tie.Need-shared-slice-read-check-row-2 Inv-loop μ-loop
-shared-slice-read-check-row-2 c = omega arith
-
-shared-slice-read-check-row-3 : tie.Need-shared-slice-read-check-row-3 Inv-loop μ-loop
-shared-slice-read-check-row-3 c = omega arith
+row-at-requires : tie.Need-row-at-requires Inv-loop μ-loop
+row-at-requires c κs =
+    let l = c .before .loop in
+    record { each-end = l .inv .1; each-mark = l .inv .2; below = c .loop-test .taken }
 
 check-row-requires : tie.Need-check-row-requires Inv-loop μ-loop
 check-row-requires c κs = search needs
@@ -45,14 +44,18 @@ check-row-requires c κs = search needs
 number-requires : tie.Need-number-requires Inv-loop μ-loop
 number-requires c κs = search needs
 
-add-t22 : tie.Need-add-t22 Inv-loop μ-loop
-add-t22 c = omega arith
+add-looked-at : tie.Need-add-looked-at Inv-loop μ-loop
+add-looked-at c = omega arith
+
+looked-at-requires-3 : tie.Need-looked-at-requires-3 Inv-loop μ-loop
+looked-at-requires-3 c κs = search needs
 
 returns-3 : tie.Need-returns-3 Inv-loop μ-loop
 returns-3 c =
-    let l = c .before .before .before .before .before .before .before .loop in
-    let r = c .before .before .check-row in
-    ahead-refused _ _ _ _ _ (l .i) (r .result) (omega arith) (l .inv .3) (r .ensures) (λ e. c .if3 .taken (c .before .number .ensures ∙ e))
+    let l = c .before .before .before .before .before .before .loop in
+    let r = c .before .before .before .check-row in
+    c .looked-at3 .ensures
+    ∙ ahead-refused _ (l .i) (r .result) (omega arith) (l .inv .3) (r .ensures ∙ ap (rowRefusal _) (c .before .before .before .before .row-at .ensures)) (λ e. c .before .if3 .taken (c .before .before .number .ensures ∙ e))
 
 add-i : tie.Need-add-i Inv-loop μ-loop
 add-i c = omega arith
@@ -62,12 +65,15 @@ loop-less c = omega arith
 
 loop-again : tie.Need-loop-again Inv-loop μ-loop
 loop-again c =
-    let l = c .before .before .before .before .before .before .before .loop in
-    let r = c .before .before .check-row in
-    (omega arith, l .inv .1, l .inv .2, ahead-more _ _ _ _ _ (l .i) (omega arith) (l .inv .3) (sym (ap numberOf (r .ensures)) ∙ sym (c .before .number .ensures) ∙ c .if3 .left))
+    let l = c .before .before .before .before .before .loop in
+    let told = c .before .before .check-row .ensures ∙ ap (rowRefusal _) (c .before .before .before .row-at .ensures) in
+    (omega arith, l .inv .1, l .inv .2, ahead-more _ (l .i) (omega arith) (l .inv .3) (sym (ap numberOf told) ∙ sym (c .before .number .ensures) ∙ c .if3 .left))
+
+looked-at-requires-4 : tie.Need-looked-at-requires-4 Inv-loop μ-loop
+looked-at-requires-4 c κs = search needs
 
 returns-4 : tie.Need-returns-4 Inv-loop μ-loop
-returns-4 c = ahead-done _ _ _ _ _ _ (c .loop-test .left) (c .before .loop .inv .3)
+returns-4 c = c .looked-at4 .ensures ∙ ahead-done _ _ (c .before .loop-test .left) (c .before .before .loop .inv .3)
 
 pub check-rows-spec : {M : Type 1} → statement M
 check-rows-spec =
@@ -75,19 +81,19 @@ check-rows-spec =
     (tie.spec
     Inv-loop
     μ-loop
+    looked-at-requires
     returns
+    looked-at-requires-2
     returns-2
     loop-holds
-    mul-check-row
-    shared-slice-read-check-row
-    mul-check-row-2
-    shared-slice-read-check-row-2
-    shared-slice-read-check-row-3
+    row-at-requires
     check-row-requires
     number-requires
-    add-t22
+    add-looked-at
+    looked-at-requires-3
     returns-3
     add-i
     loop-less
     loop-again
+    looked-at-requires-4
     returns-4)

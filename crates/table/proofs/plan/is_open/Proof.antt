@@ -14,6 +14,9 @@ returns c = search needs
 enum-told-2 : tie.Need-enum-told-2
 enum-told-2 c = search needs
 
+hours-in-requires : tie.Need-hours-in-requires
+hours-in-requires c κs = search needs
+
 sub-receiver : tie.Need-sub-receiver
 sub-receiver c = search needs
 
@@ -40,13 +43,13 @@ index-2-result c = search needs
 
 returns-2 : tie.Need-returns-2
 returns-2 c =
-    let g = c .before .before .before .before .before .args in
-    rw (c .before .before .before .enum-told2 .given .1) (open-within (g .t2) (g .start) (g .end) (g .label) (omega arith) (c .before .if1 .taken))
+    let g = c .before .before .before .before .before .before .before .before .args in
+    rw (c .before .before .before .before .before .before .enum-told2 .given .1) (open-within (c .before .before .before .before .before .hours-in .ensures) (g .row) (g .label) (omega arith) (c .before .before .if1 .taken))
 
 returns-3 : tie.Need-returns-3
 returns-3 c =
-    let g = c .before .before .before .before .args in
-    rw (c .before .before .enum-told2 .given .1) (open-outside (g .t2) (g .start) (g .end) (g .label) (omega arith) (c .if1 .left))
+    let g = c .before .before .before .before .before .before .args in
+    rw (c .before .before .before .before .enum-told2 .given .1) (open-outside (c .before .before .before .hours-in .ensures) (g .row) (g .label) (omega arith) (c .if1 .left))
 
 pub is-open-spec : {M : Type 1} → statement M
 is-open-spec =
@@ -55,6 +58,7 @@ is-open-spec =
     enum-told
     returns
     enum-told-2
+    hours-in-requires
     sub-receiver
     cast-receiver
     mul-if1

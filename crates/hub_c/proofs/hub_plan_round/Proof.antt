@@ -1,0 +1,23 @@
+-- `hub_c::hub_plan_round` meets its contract.
+use borrow.Author.Needs.{needs}
+use Rattle.hub_c.proofs.hub_plan_round.Statement.{statement}
+use Rattle.hub_c.proofs.hub_plan_round.Tie as tie
+
+round-setting-requires : tie.Need-round-setting-requires
+round-setting-requires c κs = search needs
+
+plan-requires : tie.Need-plan-requires
+plan-requires c κs = search needs
+
+same-length : tie.Need-same-length
+same-length c = search needs
+
+same-length-2 : tie.Need-same-length-2
+same-length-2 c = search needs
+
+returns : tie.Need-returns
+returns c = rw (c .before .before .before .before .before .before .before .round-setting .ensures) at (c .before .before .before .before .plan .ensures)
+
+pub hub-plan-round-spec : {M : Type 1} → statement M
+hub-plan-round-spec =
+    tie.close (tie.spec round-setting-requires plan-requires same-length same-length-2 returns)
