@@ -16,7 +16,7 @@ pub const PLAN_TAPE_BYTES: usize = 392;
 /// The longest fleet tape that `reply` takes.
 pub const FLEET_TAPE_BYTES: usize = 400;
 
-/// The room that `reply` asks for; the longest text has 329 bytes.
+/// The room that `reply` asks for; the longest text has 319 bytes.
 pub const REPLY_BYTES: usize = 400;
 
 /// Why a call is refused; the values are the numbers of paper 01.

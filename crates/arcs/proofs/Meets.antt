@@ -2,12 +2,17 @@
 use Prim.Native.Nat.{ℕ, _≤_, _<_}
 use mathlib.Core.Path.{_≡_}
 use mathlib.Core.Logic.{_↔_, _⊎_, inl, inr, Iff·trans}
-use mathlib.Core.Bool.{Bool, true}
+use mathlib.Core.Bool.{Bool, true, _||_}
 use native.Mathlib.Omega.{arith}
+use lib.Dec.{ltb}
 use Rattle.basics.proofs.Tests.{Test, pass, fail, test, ltb-iff, or-iff}
 use Rattle.window.specs.Ticks.{distance}
-use Rattle.arcs.specs.Arcs.{Covers, Meet, meets}
+use Rattle.arcs.specs.Arcs.{Covers, Meet}
 use Rattle.arcs.proofs.Steps.{Steps, direct, round, steps, reaches, only-steps}
+
+-- the plain test: one of the two arcs has the other's start
+unfoldable pub meets : ℕ → ℕ → ℕ → ℕ → ℕ → Bool
+meets C s n s′ n′ = ltb (distance C s s′) n || ltb (distance C s′ s) n′
 
 -- an arc covers the ticks whose distance from its start is below its length
 module _ {C s n t : ℕ} (hs : s < C) (ht : t < C) where

@@ -1,15 +1,13 @@
--- Arcs of a circle of C ticks, when two of them meet, and two-track assignments of arcs under permissions.
+-- Inner: Arcs of a circle of C ticks, when two of them meet, and two-track assignments of arcs under permissions.
 use Prim.Native.Nat.{ℕ, _+_, _%_, _≤_, _<_}
 use mathlib.Core.Path.{_≡_}
-use mathlib.Core.Bool.{Bool, true, _||_}
+use mathlib.Core.Bool.{true}
 use mathlib.Core.List.{List}
-use lib.Dec.{ltb}
 use lib.ListN.{length}
 use Rattle.basics.specs.Limits.{maxRows}
 use Rattle.basics.specs.Lists.{at}
 use Rattle.labels.specs.Labels.{Assignment}
 use Rattle.labels.specs.Permission.{permits}
-use Rattle.window.specs.Ticks.{distance}
 
 -- the arc of n ticks from s on covers the tick t: t is reached from s by fewer than n steps
 pub record Covers (C s n t : ℕ) : Type 0 where
@@ -23,10 +21,6 @@ pub record Meet (C s n s′ n′ : ℕ) : Type 0 where
   pub below : tick < C
   pub in-first : Covers C s n tick
   pub in-second : Covers C s′ n′ tick
-
--- the plain test: one of the two arcs has the other's start (`meets-iff` of proofs/Meets.antt)
-unfoldable pub meets : ℕ → ℕ → ℕ → ℕ → ℕ → Bool
-meets C s n s′ n′ = ltb (distance C s s′) n || ltb (distance C s′ s) n′
 
 -- rows that tracks can be assigned to: at most 64 arcs of a circle of C ticks, each of at least one tick and at most the whole circle
 pub record Arcs (C : ℕ) (starts lengths : List ℕ) : Type 0 where

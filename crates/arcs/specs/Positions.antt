@@ -1,4 +1,4 @@
--- Arcs as positions from a cut: the circle is opened at a tick, and positions are counted from there.
+-- Inner: Arcs as positions from a cut: the circle is opened at a tick, and positions are counted from there.
 use Prim.Native.Nat.{ℕ, _+_, _-_, _<_}
 use mathlib.Core.Path.{_≡_}
 use mathlib.Core.Bool.{Bool, false, cond, _&&_, _||_}

@@ -1,4 +1,4 @@
--- The limit that every list of rows has.
+-- Believed: The limit that every list of rows has.
 use Prim.Native.Nat.{ℕ}
 
 -- "A table has 0 to 64 rows"

@@ -1,4 +1,4 @@
--- Lists of numbers: the entry at a place, a text at the front, bytes stored at a place, neighbours exchanged.
+-- Believed: Lists of numbers: the entry at a place, a text at the front, bytes stored at a place, neighbours exchanged.
 use Prim.Native.Nat.{ℕ, zero, suc, _+_}
 use mathlib.Core.Path.{_≡_}
 use mathlib.Core.List.{List, [], _∷_, _++_}

@@ -1,4 +1,4 @@
--- Tests that are written clause for clause like the statements that they decide.
+-- Inner: Tests that are written clause for clause like the statements that they decide.
 use Prim.Native.Nat.{ℕ, zero, suc}
 use mathlib.Core.Bool.{Bool, true, false, _&&_}
 

@@ -3,6 +3,7 @@ mod bench;
 mod edges;
 mod kept;
 mod order;
+mod tape_edges;
 mod tapes;
 mod wrong;
 

@@ -1,4 +1,5 @@
-// The plan tape of paper 01's session, and labels that the writer refuses and accepts.
+// The plan tape of paper 01's session, labels that the writer refuses and accepts, and the writer's edges.
+use crate::tape_edges::with_edges;
 use trial_calls::is_taped;
 use trial_report::Group;
 use trial_report::no_cases;
@@ -101,5 +102,6 @@ pub fn all() -> Group {
     let mut g = no_cases();
     g = session(g);
     g = not_a_plan(g);
-    other_plans(g)
+    g = other_plans(g);
+    with_edges(g)
 }

@@ -1,7 +1,7 @@
 -- The theorems about the reader: it takes exactly the fleet tapes with at most 64 rows and gives back what they state; a fleet tape with more rows it refuses by 2, and any other bytes by 11.
 use Prim.Native.Nat.{ℕ, _≤_, _<_}
-use mathlib.Core.Path.{_≡_, refl, ap, _∙_}
-use mathlib.Core.Logic.{_↔_}
+use mathlib.Core.Path.{_≡_, refl, ap, _∙_, sym}
+use mathlib.Core.Logic.{⊎-elim}
 use mathlib.Core.Bool.{Bool, true, false, cond}
 use mathlib.Core.List.{List, [], _∷_, map}
 use mathlib.Core.Option.{Option, none, some}
@@ -10,6 +10,10 @@ use borrow.Author.Tests.{le-leb, lt-leb, leb-true, eq-eqb}
 use lib.Dec.{leb}
 use lib.ListN.{length, take, drop, length-map}
 use lib.Seq.{take-at}
+use Rattle.refusals.specs.declared.Refusal.{Refusal}
+use Rattle.basics.proofs.Tests.{le-or-lt}
+use Rattle.basics.specs.Limits.{maxRows}
+use Rattle.fleet_tape.specs.Demand.{IsFleetTape, rowsGiven, Stated, Demand2, Places}
 use Rattle.window.specs.declared.Kind.{Kind}
 use Rattle.refusals.specs.declared.Refusal.the-variants.{Accepted, Lists, Rows, Form}
 use Rattle.refusals.specs.Refusals.{numberOf}
@@ -17,7 +21,6 @@ use Rattle.window.specs.declared.Row.{Row}
 use Rattle.fleet_tape.specs.Fleet.{fleetTape, Bytes, Fits, rowsOfLists, firstRows}
 use Rattle.window.specs.Rows.{startsOf, endsOf, marksOf}
 use Rattle.fleet_tape.specs.Form.{Fleet, fleet, hoursIn, fleetOf}
-use Rattle.fleet_tape.specs.Scan.{Places}
 use Rattle.fleet_tape.specs.Reading.{Reading, reading, refused, taken, judged, hasPlaces, fleetRead}
 use Rattle.basics.specs.Lists.{front}
 use Rattle.fleet_tape.proofs.Parsed.{fleet-back, FleetStands, FleetKnown, fleet-known}
@@ -65,17 +68,6 @@ first-rows : (rows : List Row) (starts ends marks : List ℕ)
 first-rows rows starts ends marks =
     rw (taken-front (λ row. row .start) rows starts, taken-front (λ row. row .end) rows ends, taken-front (λ row. row .mark) rows marks) (rows-again rows)
 
--- the rows that a call reports and has filled in
-abbrev pub rowsGiven : Reading → List Row
-rowsGiven out = firstRows (out .report .rows) (out .starts) (out .ends) (out .marks)
-
--- The tape is the fleet tape of what was reported and filled in.
-pub record Stated (tape : List ℕ) (out : Reading) : Type 0 where
-  pub tape-is : tape ≡ fleetTape (out .report .kind) (out .report .ticks) (out .report .hours) (rowsGiven out)
-  pub fits : Fits (out .report .ticks) (out .report .hours) (rowsGiven out)
-  pub counted : length (rowsGiven out) ≡ out .report .rows
-  pub few : out .report .rows ≤ 64
-
 -- what is known of the answer once it is an acceptance
 abbrev IfAccepted : List ℕ → Reading → Type 0
 IfAccepted tape out = out .report .refusal ≡ Accepted → Stated tape out
@@ -110,34 +102,106 @@ module _ (tape starts ends marks : List ℕ) (b : Bytes tape) where
   unfolding fleetRead
   accepted-only = placed-stated (hasPlaces (length starts) (length ends) (length marks))
 
--- ---- both ways
+-- ---- demand 2
 
--- a fleet tape with at most 64 rows
-pub record IsFleetTape (tape : List ℕ) : Type 0 where
-  pub kind : Kind
-  pub ticks : ℕ
-  pub hours : List (List ℕ)
-  pub rows : List Row
-  pub fits : Fits ticks hours rows
-  pub few : length rows ≤ 64
-  pub tape-is : tape ≡ fleetTape kind ticks hours rows
+module _ (tape : List ℕ) {starts ends marks : List ℕ} (b : Bytes tape) (p : Places starts ends marks) where
+  abbrev out : Reading
+  out = fleetRead tape starts ends marks
 
--- "The reader takes just the fleet tapes of document 01's form with up to 64 rows, into lists of 64."
-pub accepts-iff : (tape : List ℕ) {starts ends marks : List ℕ} → Bytes tape → Places starts ends marks
-    → (fleetRead tape starts ends marks .report .refusal ≡ Accepted) ↔ IsFleetTape tape
-unfolding taken
-accepts-iff tape {starts} {ends} {marks} b p = (
-  λ a.
-      let out = fleetRead tape starts ends marks in
-      let s = accepted-only tape starts ends marks b a in
+  few-accepted : (n : ℕ) → n ≤ maxRows → IsFleetTape tape n → out .report .refusal ≡ Accepted
+  unfolding taken
+  few-accepted n h t =
+      ap (λ (l : List ℕ). fleetRead l starts ends marks .report .refusal) (t .tape-is)
+      ∙ ap (λ (r : Reading). r .report .refusal) (gives-back p (t .kind) (t .ticks) (t .hours) (t .rows) (t .fits) (omega (arith, t .each)))
+
+  many-refused : (n : ℕ) → maxRows < n → IsFleetTape tape n → out .report .refusal ≡ Rows
+  many-refused n h t =
+      ap (λ (l : List ℕ). fleetRead l starts ends marks .report .refusal) (t .tape-is)
+      ∙ ap (λ (r : Reading). r .report .refusal) (too-many p (t .kind) (t .ticks) (t .hours) (t .rows) (t .fits) (omega (arith, t .each)))
+
+  -- two refusals with different numbers are not one
+  differ : {r s : Refusal} → out .report .refusal ≡ r → out .report .refusal ≡ s → numberOf r ≡ numberOf s
+  differ e f = ap numberOf (sym e ∙ f)
+
+  stated-tape : Stated tape out → (n : ℕ) × (n ≤ maxRows) × IsFleetTape tape n
+  stated-tape s = (
+    out .report .rows,
+    s .few,
+    record {
+      kind = out .report .kind;
+      ticks = out .report .ticks;
+      hours = out .report .hours;
+      rows = rowsGiven out;
+      fits = s .fits;
+      each = s .counted;
+      tape-is = s .tape-is;
+    },
+  )
+
+  -- a call that is refused by 2 read a fleet tape with more rows
+  many-tape : out .report .refusal ≡ Rows → (n : ℕ) × (maxRows < n) × IsFleetTape tape n
+  unfolding judged taken
+  many-tape e = go (fleetOf tape) (fleet-known tape b) refl
+    where
+      go : (o : Option Fleet) → FleetKnown tape o → fleetOf tape ≡ o → (n : ℕ) × (maxRows < n) × IsFleetTape tape n
+      go none r q = let z = differ e (ap (λ (x : Reading). x .report .refusal) (placed p tape none q)) in absurd (omega arith)
+      go (some f) r q =
+          let t : IsFleetTape tape (length (f .rows)) = record { kind = f .kind; ticks = f .ticks; hours = f .hours; rows = f .rows; fits = r .fit; each = refl; tape-is = r .bytes } in
+          ⊎-elim
+          (λ h. let z = differ e (few-accepted (length (f .rows)) h t) in absurd (omega arith))
+          (λ h. (length (f .rows), h, t))
+          (le-or-lt (length (f .rows)) maxRows)
+
+  pub demand-2 : Demand2 tape (fleetRead tape starts ends marks)
+  demand-2 =
       record {
-        kind = out .report .kind;
-        ticks = out .report .ticks;
-        hours = out .report .hours;
-        rows = rowsGiven out;
-        fits = s .fits;
-        few = omega (arith, s .counted, s .few);
-        tape-is = s .tape-is;
-      },
-  λ t. ap (λ (l : List ℕ). fleetRead l starts ends marks .report .refusal) (t .tape-is) ∙ ap (λ (r : Reading). r .report .refusal) (gives-back p (t .kind) (t .ticks) (t .hours) (t .rows) (t .fits) (t .few)),
-)
+        takes = (λ e. stated-tape (accepted-only tape starts ends marks b e), λ t. few-accepted (t .0) (t .1) (t .2));
+        states = accepted-only tape starts ends marks b;
+        form = (no-tape, λ f. ap (λ (r : Reading). r .report .refusal) (not-of-form p tape b (λ kind R hours rows fit e. f (length rows) (record { kind = kind; ticks = R; hours = hours; rows = rows; fits = fit; each = refl; tape-is = e }))));
+        many = (many-tape, λ t. many-refused (t .0) (t .1) (t .2));
+      }
+    where
+      no-tape : out .report .refusal ≡ Form → (n : ℕ) → IsFleetTape tape n → ⊥
+      no-tape e n t =
+          ⊎-elim
+          (λ h. let z = differ e (few-accepted n h t) in omega arith)
+          (λ h. let z = differ e (many-refused n h t) in omega arith)
+          (le-or-lt n maxRows)
+
+-- what the reader promises, from what it computes
+pub read-said : (tape : List ℕ) {starts ends marks : List ℕ} {out : Reading} → Bytes tape → out ≡ fleetRead tape starts ends marks
+    → (out ≡ fleetRead tape starts ends marks) × (Places starts ends marks → Demand2 tape out)
+read-said tape b e = (e, λ p. rw e (demand-2 tape b p))
+
+-- ---- whatever meets demand 2 answers as the reader does, and reports what the tape states
+
+pub only-demanded : (tape : List ℕ) {starts ends marks : List ℕ} → Bytes tape → Places starts ends marks → (out : Reading) → Demand2 tape out
+    → (out .report .refusal ≡ fleetRead tape starts ends marks .report .refusal)
+    × (out .report .refusal ≡ Accepted
+    → (fleetOf tape ≡ some (fleet (out .report .kind) (out .report .ticks) (hoursIn (out .report .kind) (out .report .hours)) (rowsGiven out)))
+    × (length (rowsGiven out) ≡ out .report .rows)
+    × (out .report .rows ≤ maxRows))
+unfolding judged taken
+only-demanded tape {starts} {ends} {marks} b p out d = (go (fleetOf tape) (fleet-known tape b) refl, stated)
+  where
+    right : Demand2 tape (fleetRead tape starts ends marks)
+    right = demand-2 tape b p
+
+    go : (o : Option Fleet) → FleetKnown tape o → fleetOf tape ≡ o → out .report .refusal ≡ fleetRead tape starts ends marks .report .refusal
+    go none r q =
+        let e : fleetRead tape starts ends marks .report .refusal ≡ Form = ap (λ (x : Reading). x .report .refusal) (placed p tape none q) in
+        d .form .1 (right .form .0 e) ∙ sym e
+    go (some f) r q =
+        let t : IsFleetTape tape (length (f .rows)) = record { kind = f .kind; ticks = f .ticks; hours = f .hours; rows = f .rows; fits = r .fit; each = refl; tape-is = r .bytes } in
+        ⊎-elim
+        (λ h. d .takes .1 (length (f .rows), h, t) ∙ sym (few-accepted tape b p (length (f .rows)) h t))
+        (λ h. d .many .1 (length (f .rows), h, t) ∙ sym (many-refused tape b p (length (f .rows)) h t))
+        (le-or-lt (length (f .rows)) maxRows)
+
+    stated : out .report .refusal ≡ Accepted
+        → (fleetOf tape ≡ some (fleet (out .report .kind) (out .report .ticks) (hoursIn (out .report .kind) (out .report .hours)) (rowsGiven out)))
+        × (length (rowsGiven out) ≡ out .report .rows)
+        × (out .report .rows ≤ maxRows)
+    stated e =
+        let s = d .states e in
+        (ap fleetOf (s .tape-is) ∙ fleet-back (out .report .kind) (out .report .ticks) (out .report .hours) (rowsGiven out) (s .fits), s .counted, s .few)

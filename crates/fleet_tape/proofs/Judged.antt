@@ -19,7 +19,8 @@ use Rattle.window.specs.declared.Row.{Row}
 use Rattle.window.specs.Rows.{startsOf, endsOf, marksOf}
 use Rattle.fleet_tape.specs.Form.{begins, wordAt, hoursOf, rowsIn, stated, fleetOf}
 use Rattle.window.specs.Hours.{noHours}
-use Rattle.fleet_tape.specs.Scan.{counted, listed, Places}
+use Rattle.fleet_tape.specs.Scan.{counted, listed}
+use Rattle.fleet_tape.specs.Demand.{Places}
 use Rattle.fleet_tape.specs.Reading.{Reading, reading, refused, taken, judged, hasPlaces, fleetRead}
 use Rattle.basics.specs.Lists.{front}
 use Rattle.fleet_tape.proofs.Heads.{begins-iff, begins-at}

@@ -3,12 +3,13 @@ use Prim.Native.Nat.{ℕ}
 use mathlib.Core.Path.{_≡_, refl}
 use mathlib.Core.List.{List, [], _∷_, _++_}
 use lib.ListN.{replicate}
+use Rattle.refusals.specs.declared.Refusal.{Refusal}
 use Rattle.window.specs.declared.Kind.the-variants.{Round, Run}
-use Rattle.refusals.specs.declared.Refusal.the-variants.{Accepted}
+use Rattle.refusals.specs.declared.Refusal.the-variants.{Accepted, Lists, Rows, Form}
 use Rattle.window.specs.Rows.{row}
 use Rattle.fleet_tape.specs.Fleet.{fleetTape}
 use Rattle.window.specs.Hours.{noHours}
-use Rattle.fleet_tape.specs.Reading.{reading, fleetRead}
+use Rattle.fleet_tape.specs.Reading.{Reading, reading, fleetRead}
 
 -- "Input: `10 00 64 40 00 0A 00 1E 40 00 14 00 28 40 00 19 00 32 40 00 5A 00 0A 7F`"
 abbrev session : List ℕ
@@ -59,3 +60,26 @@ pub run-read : fleetRead run before before before
     ((0 ∷ 1 ∷ 0 ∷ []) ++ replicate 61 7)
 unfolding fleetRead
 run-read = refl
+
+-- "A refusal reports kind round and zeros", and the lists, which hold 7, 8 and 9, are untouched
+abbrev none : Refusal → ℕ → ℕ → ℕ → Reading
+none r n m l = reading (record { refusal = r; kind = Round; ticks = 0; hours = (0 ∷ 0 ∷ []) ∷ (0 ∷ 0 ∷ []) ∷ []; rows = 0 }) (replicate n 7) (replicate m 8) (replicate l 9)
+
+-- the call, with lists of so many places
+abbrev call : List ℕ → ℕ → ℕ → ℕ → Reading
+call tape n m l = fleetRead tape (replicate n 7) (replicate m 8) (replicate l 9)
+
+-- a tape of 65 rows
+abbrev many : List ℕ
+many = fleetTape Round 100 noHours (replicate 65 (row 1 2 0))
+
+-- "Reader's order: 1, 11, 2": a list of other than 64 places, each of them, before bytes that are no tape; no tape before too many rows; 65 rows
+pub refusals :
+    (call [] 63 64 64 ≡ none Lists 63 64 64)
+    × (call [] 64 65 64 ≡ none Lists 64 65 64)
+    × (call [] 64 64 63 ≡ none Lists 64 64 63)
+    × (call [] 64 64 64 ≡ none Form 64 64 64)
+    × (call (many ++ (0x7F ∷ [])) 64 64 64 ≡ none Form 64 64 64)
+    × (call many 64 64 64 ≡ none Rows 64 64 64)
+unfolding fleetRead fleetTape
+refusals = (refl, refl, refl, refl, refl, refl)

@@ -1,4 +1,4 @@
--- What a fleet tape is (paper 01, "Tapes"): from kind, R, hours and rows to bytes.
+-- Believed: What a fleet tape is (paper 01, "Tapes"): from kind, R, hours and rows to bytes.
 use Prim.Native.Nat.{ℕ, zero, suc, _≤_, _<_}
 use mathlib.Core.Path.{_≡_}
 use mathlib.Core.List.{List, [], _∷_, _++_}

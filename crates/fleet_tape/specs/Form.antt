@@ -1,4 +1,4 @@
--- The form of a fleet tape, read from its bytes: what a tape of the form states, and nothing of any other bytes.
+-- Believed: The form of a fleet tape, read from its bytes: what a tape of the form states, and nothing of any other bytes.
 use Prim.Native.Nat.{ℕ, _+_}
 use mathlib.Core.Bool.{Bool, cond, _&&_, _||_}
 use mathlib.Core.List.{List, [], _∷_}

@@ -3,3 +3,4 @@ pub mod Fleet
 pub mod Form
 pub mod Scan
 pub mod Reading
+pub mod Demand

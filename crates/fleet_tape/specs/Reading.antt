@@ -1,4 +1,4 @@
--- The right answer of a call of the fleet tape reader, whole: the report and what the three lists then hold, on every input.
+-- Believed: The right answer of a call of the fleet tape reader, whole: the report and what the three lists then hold, on every input.
 use Prim.Native.Nat.{ℕ}
 use mathlib.Core.Bool.{Bool, cond, _&&_}
 use mathlib.Core.List.{List}

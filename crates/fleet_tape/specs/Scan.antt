@@ -1,4 +1,4 @@
--- The scan of a tape's rows and the filling of the lists: what the reader's inner functions promise.
+-- Inner: The scan of a tape's rows and the filling of the lists: what the reader's inner functions promise.
 use Prim.Native.Nat.{ℕ, _≤_, _<_}
 use mathlib.Core.Path.{_≡_}
 use mathlib.Core.Bool.{Bool, _&&_, _||_}
@@ -6,6 +6,7 @@ use mathlib.Core.List.{List, []}
 use mathlib.Core.Option.{Option, none, some}
 use lib.Dec.{eqb}
 use lib.ListN.{length, drop}
+use Rattle.fleet_tape.specs.Demand.{Places}
 use Rattle.basics.specs.Limits.{maxRows}
 use Rattle.tape.specs.Commands.{WINDOW, MUST, STOP}
 use Rattle.fleet_tape.specs.declared.Scanned.{Scanned}
@@ -33,12 +34,6 @@ listed (some rows) = rows
 -- the place lies on the tape
 pub record Inside (tape : List ℕ) (at : ℕ) : Type 0 where
   pub inside : at < length tape
-
--- lists of 64 places
-pub record Places (starts ends marks : List ℕ) : Type 0 where
-  pub starts-64 : length starts ≡ maxRows
-  pub ends-64 : length ends ≡ maxRows
-  pub marks-64 : length marks ≡ maxRows
 
 -- so many rows stand at a place of the tape, and the lists have places for them
 pub record Fillable (tape : List ℕ) (from rows : ℕ) (starts ends marks : List ℕ) : Type 0 where

@@ -4,7 +4,8 @@ ghost use Prim.Native.Nat.{_+_};
 ghost use lib.ListN.{drop};
 ghost use Rattle.window.specs.Rows.{startsOf, endsOf, marksOf};
 ghost use Rattle.fleet_tape.specs.Form.{begins, wordAt, hoursOf, markOf, rowsIn, stated};
-ghost use Rattle.fleet_tape.specs.Scan.{rowFirst, stopLast, counted, listed, Inside, Places, Fillable};
+ghost use Rattle.fleet_tape.specs.Scan.{rowFirst, stopLast, counted, listed, Inside, Fillable};
+ghost use Rattle.fleet_tape.specs.Demand.{Places, Demand2};
 ghost use Rattle.fleet_tape.specs.Reading.{hasPlaces, refused, reading, judged, fleetRead};
 ghost use Rattle.basics.specs.Lists.{front};
 use basics::MAX_ROWS;
@@ -202,8 +203,8 @@ fn read_rows(
     }
 }
 
-// Reads a fleet tape into lists of 64 places. "It judges the form alone; the planner judges the values."
-pub fn read_fleet(tape: &[u8], starts: &mut [u16], ends: &mut [u16], marks: &mut [u8]) -> Report
+// Reads a fleet tape: the head, and then the rows.
+fn read_tape(tape: &[u8], starts: &mut [u16], ends: &mut [u16], marks: &mut [u8]) -> Report
     ensures { λ r. ⌜ reading r (now (starts .exit)) (now (ends .exit)) (now (marks .exit)) ≡ fleetRead (now (tape .entry)) (now (starts .entry)) (now (ends .entry)) (now (marks .entry)) ⌝ }
 {
     if !has_places(starts.len(), ends.len(), marks.len()) {
@@ -234,4 +235,13 @@ pub fn read_fleet(tape: &[u8], starts: &mut [u16], ends: &mut [u16], marks: &mut
     let pairs = hours_at(tape, hours);
     let from = hours + 1 + operand_bytes(HOURS);
     read_rows(tape, from, Kind::Run, ticks, pairs, starts, ends, marks)
+}
+
+// THE READER of fleet tapes, into lists of 64 places. "It judges the form alone; the planner judges the values." What a call gives, report and lists, is what the
+// definition `fleetRead` yields, on every input. So, spelled out over paper 01's form: it is as demand 2 asks.
+pub fn read_fleet(tape: &[u8], starts: &mut [u16], ends: &mut [u16], marks: &mut [u8]) -> Report
+    ensures read { λ r. ⌜ reading r (now (starts .exit)) (now (ends .exit)) (now (marks .exit)) ≡ fleetRead (now (tape .entry)) (now (starts .entry)) (now (ends .entry)) (now (marks .entry)) ⌝ }
+    ensures demand2 { λ r. ⌜ (Places (now (starts .entry)) (now (ends .entry)) (now (marks .entry)) → Demand2 (now (tape .entry)) (reading r (now (starts .exit)) (now (ends .exit)) (now (marks .exit)))) ⌝ }
+{
+    read_tape(tape, starts, ends, marks)
 }

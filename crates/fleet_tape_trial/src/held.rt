@@ -1,8 +1,8 @@
 // Calls of the reader on lists that hold a pattern, and what each call must give.
 use crate::made::Head;
+use crate::made::Stated;
 use crate::made::at_most;
-use crate::made::encode;
-use crate::made::front;
+use crate::made::nothing;
 use fleet_tape::Report;
 use fleet_tape::hours_in;
 use fleet_tape::read_fleet;
@@ -39,12 +39,20 @@ fn pattern_marks() -> [u8; 65] {
     list
 }
 
-// ---- what the lists hold after a call: the pattern at each place from `rows` on
+// ---- what the lists hold after a call: the rows in front, and the pattern at every other place
 
-fn words_right(list: &[u16; 65], rows: usize) -> bool {
-    let mut i: usize = rows;
+fn word_after(value: u16, rows: usize, i: usize) -> u16 {
+    if i < rows { value } else { pattern_word(i) }
+}
+
+fn mark_after(value: u8, rows: usize, i: usize) -> u8 {
+    if i < rows { value } else { pattern_mark(i) }
+}
+
+fn words_right(list: &[u16; 65], given: &[u16; 65], rows: usize) -> bool {
+    let mut i: usize = 0;
     while i < 65 {
-        if list[i] != pattern_word(i) {
+        if list[i] != word_after(given[i], rows, i) {
             return false;
         }
         i += 1;
@@ -52,10 +60,10 @@ fn words_right(list: &[u16; 65], rows: usize) -> bool {
     true
 }
 
-fn marks_right(list: &[u8; 65], rows: usize) -> bool {
-    let mut i: usize = rows;
+fn marks_right(list: &[u8; 65], given: &[u8; 65], rows: usize) -> bool {
+    let mut i: usize = 0;
     while i < 65 {
-        if list[i] != pattern_mark(i) {
+        if list[i] != mark_after(given[i], rows, i) {
             return false;
         }
         i += 1;
@@ -63,14 +71,17 @@ fn marks_right(list: &[u8; 65], rows: usize) -> bool {
     true
 }
 
-fn untouched(starts: &[u16; 65], ends: &[u16; 65], marks: &[u8; 65], rows: usize) -> bool {
-    if !words_right(starts, rows) {
+fn lists_right(given: Stated, s: &[u16; 65], e: &[u16; 65], m: &[u8; 65]) -> bool {
+    let starts = given.starts;
+    let ends = given.ends;
+    let marks = given.marks;
+    if !words_right(s, &starts, given.rows) {
         return false;
     }
-    if !words_right(ends, rows) {
+    if !words_right(e, &ends, given.rows) {
         return false;
     }
-    marks_right(marks, rows)
+    marks_right(m, &marks, given.rows)
 }
 
 // ---- what is reported
@@ -146,53 +157,47 @@ fn read_into(
     read_fleet(tape, &mut starts[..s], &mut ends[..e], &mut marks[..m])
 }
 
-// Refused by this number, with kind round and zeros reported and the lists untouched, where the lists have so many places.
-pub fn refused_with(tape: &[u8], refusal: u8, starts: usize, ends: usize, marks: usize) -> bool {
+// Whether a call with lists of so many places reports this number and what is given, and writes its rows and nothing else.
+fn gives(
+    tape: &[u8],
+    starts: usize,
+    ends: usize,
+    marks: usize,
+    refusal: u8,
+    given: Stated,
+) -> bool {
     let mut s = pattern_words();
     let mut e = pattern_words();
     let mut m = pattern_marks();
     let report = read_into(tape, &mut s, starts, &mut e, ends, &mut m, marks);
-    let zeros = Head {
-        run: false,
-        ticks: 0,
-        hours: [0, 0, 0, 0],
-    };
-    if !report_right(report, refusal, zeros, 0) {
+    let head = given.head;
+    if !report_right(report, refusal, head, given.rows) {
         return false;
     }
-    untouched(&s, &e, &m, 0)
+    lists_right(given, &s, &e, &m)
+}
+
+// Refused by this number, with kind round and zeros reported and the lists untouched, where the lists have so many places.
+pub fn refused_with(tape: &[u8], refusal: u8, starts: usize, ends: usize, marks: usize) -> bool {
+    gives(tape, starts, ends, marks, refusal, nothing())
 }
 
 pub fn refused(tape: &[u8], refusal: u8) -> bool {
     refused_with(tape, refusal, 64, 64, 64)
 }
 
-// Whether what is reported and held encodes to this tape.
-fn encodes(
-    tape: &[u8],
-    head: Head,
-    rows: usize,
-    s: &[u16; 65],
-    e: &[u16; 65],
-    m: &[u8; 65],
-) -> bool {
-    let mut again = [0u8; 400];
-    let n = encode(head, rows, s, e, m, &mut again);
-    check::same(tape, front(&again, n))
+// Accepted, with exactly what the tape states.
+pub fn accepted(tape: &[u8], stated: Stated) -> bool {
+    gives(tape, 64, 64, 64, 0, stated)
 }
 
-// Accepted, with so many rows: what is given encodes to the same tape, and the places beyond the rows are untouched.
-pub fn restated(tape: &[u8], rows: usize) -> bool {
-    let mut s = pattern_words();
-    let mut e = pattern_words();
-    let mut m = pattern_marks();
-    let report = read_into(tape, &mut s, 64, &mut e, 64, &mut m, 64);
-    let head = head_in(report);
-    if !report_right(report, 0, head, rows) {
-        return false;
+// Answered as a tape that states this must be: 11, then 2, or accepted.
+pub fn answered(tape: &[u8], stated: Stated) -> bool {
+    if !stated.of_form {
+        return refused(tape, 11);
     }
-    if !untouched(&s, &e, &m, rows) {
-        return false;
+    if 64 < stated.rows {
+        return refused(tape, 2);
     }
-    encodes(tape, head, rows, &s, &e, &m)
+    accepted(tape, stated)
 }

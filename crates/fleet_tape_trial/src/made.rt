@@ -1,4 +1,4 @@
-// Fleet tapes made from a seed, by an encoder that shares nothing with the reader.
+// What fleet tapes state, made from a seed, and their tapes, by an encoder that shares nothing with the reader.
 ghost use Prim.Native.Nat.{_≤_};
 
 // The head of a tape: hours are p1, q1, p2, q2.
@@ -6,6 +6,33 @@ pub struct Head {
     pub run: bool,
     pub ticks: u16,
     pub hours: [u16; 4],
+}
+
+// What a tape states: its head, and its rows at the front of the lists. It states nothing if it is not of the form.
+pub struct Stated {
+    pub of_form: bool,
+    pub head: Head,
+    pub rows: usize,
+    pub starts: [u16; 65],
+    pub ends: [u16; 65],
+    pub marks: [u8; 65],
+}
+
+// Kind round, zeros and no rows: what a refusal reports.
+pub fn nothing() -> Stated {
+    let head = Head {
+        run: false,
+        ticks: 0,
+        hours: [0, 0, 0, 0],
+    };
+    Stated {
+        of_form: false,
+        head,
+        rows: 0,
+        starts: [0u16; 65],
+        ends: [0u16; 65],
+        marks: [0u8; 65],
+    }
 }
 
 // ---- chance
@@ -124,8 +151,8 @@ fn put_row(tape: &mut [u8], at: usize, start: u16, end: u16, mark: u8) -> usize 
     put_word(tape, second, end)
 }
 
-// Writes a tape and returns its length.
-pub fn encode(
+// Writes the commands of a tape and returns how many bytes they have.
+fn encode(
     head: Head,
     rows: usize,
     starts: &[u16; 65],
@@ -151,11 +178,27 @@ pub fn front(tape: &[u8], n: usize) -> &[u8] {
     tape
 }
 
-// Writes the tape of a run or a round of so many rows, made from a seed, and returns its length.
-pub fn tape_of(run: bool, rows: usize, seed: u64, tape: &mut [u8]) -> usize {
+// Writes the tape that states this and returns its length.
+pub fn write_tape(made: Stated, tape: &mut [u8]) -> usize {
+    let head = made.head;
+    let starts = made.starts;
+    let ends = made.ends;
+    let list = made.marks;
+    encode(head, made.rows, &starts, &ends, &list, tape)
+}
+
+// A run or a round of so many rows, made from a seed.
+pub fn stated_by(run: bool, rows: usize, seed: u64) -> Stated {
     let head = head_of(run, seed);
     let starts = words(seed / 2);
     let ends = words(seed / 3);
     let list = marks(seed / 5);
-    encode(head, rows, &starts, &ends, &list, tape)
+    Stated {
+        of_form: true,
+        head,
+        rows,
+        starts,
+        ends,
+        marks: list,
+    }
 }

@@ -1,16 +1,24 @@
-// Runs the fleet tape reader on tapes of the form and on tapes not of it, and prints how many answers differ from what they must be.
+// Runs the fleet tape reader on tapes of the form and on tapes not of it, and prints how many answers differ from what they must be:
+// what the tape was made from; where a byte was changed since, what a decoder of the trial's own finds.
+// Product code names what is reported: `refusals::number`, `window::Kind`, `fleet_tape::hours_in`. None makes a tape.
+mod decoded;
 mod held;
 mod made;
 
+use decoded::decode;
+use held::accepted;
+use held::answered;
 use held::refused;
 use held::refused_with;
-use held::restated;
+use made::Head;
+use made::Stated;
 use made::below;
 use made::byte_of;
 use made::front;
 use made::next;
 use made::put_byte;
-use made::tape_of;
+use made::stated_by;
+use made::write_tape;
 
 // How many tapes were read, how many of them are of the form, and how many answers differ.
 struct Tally {
@@ -81,9 +89,36 @@ fn session() -> [u8; 24] {
     ]
 }
 
+// Its round of 100 ticks: 10–30, 20–40, 25–50, 90–10.
+fn session_stated() -> Stated {
+    let mut starts = [0u16; 65];
+    let mut ends = [0u16; 65];
+    starts[0] = 10;
+    starts[1] = 20;
+    starts[2] = 25;
+    starts[3] = 90;
+    ends[0] = 30;
+    ends[1] = 40;
+    ends[2] = 50;
+    ends[3] = 10;
+    let head = Head {
+        run: false,
+        ticks: 100,
+        hours: [0, 0, 0, 0],
+    };
+    Stated {
+        of_form: true,
+        head,
+        rows: 4,
+        starts,
+        ends,
+        marks: [0u8; 65],
+    }
+}
+
 fn read_session() -> Tally {
     let tape = session();
-    one_more(none(), true, restated(&tape, 4))
+    one_more(none(), true, accepted(&tape, session_stated()))
 }
 
 fn read_cut(tape: &[u8]) -> Tally {
@@ -134,13 +169,14 @@ fn read_other_places() -> Tally {
 
 // A tape of so many rows, with this last byte, lent with one byte more than it has and then so many fewer.
 fn read_end(run: bool, rows: usize, stop: u8, fewer: usize, refusal: u8) -> bool {
+    let made = stated_by(run, rows, 77);
     let mut tape = [0u8; 400];
-    let n = tape_of(run, rows, 77, &mut tape);
+    let n = write_tape(made, &mut tape);
     put_byte(&mut tape, std::num::wrapping_sub_usize(n, 1), stop);
     let more = std::num::wrapping_add_usize(n, 1);
     let part = front(&tape, std::num::wrapping_sub_usize(more, fewer));
     if refusal == 0 {
-        return restated(part, rows);
+        return accepted(part, made);
     }
     refused(part, refusal)
 }
@@ -155,48 +191,14 @@ fn read_ends(run: bool, rows: usize, refusal: u8) -> Tally {
 
 // ---- a byte changed
 
-fn is_row(command: u8) -> bool {
-    if command == 0x40 {
-        return true;
-    }
-    command == 0x41
-}
-
-// Whether a tape is still of the form after the byte at a place has changed: an operand may be any byte, a command only WINDOW for MUST and MUST for WINDOW.
-fn stays_of_form(run: bool, at: usize, before: u8, after: u8) -> bool {
-    if before == after {
-        return true;
-    }
-    let body = if run { 12 } else { 3 };
-    if at < body {
-        if at == 0 {
-            return false;
-        }
-        return at != 3;
-    }
-    if (at - body) % 5 != 0 {
-        return true;
-    }
-    if !is_row(before) {
-        return false;
-    }
-    is_row(after)
-}
-
-// A tape of which one byte was changed, and back again.
+// Whether a changed tape is of the form, and whether it is answered as it must be.
 struct Changed {
     of_form: bool,
     right: bool,
 }
 
-fn answer_right(tape: &[u8], of_form: bool, rows: usize) -> bool {
-    if of_form {
-        return restated(tape, rows);
-    }
-    refused(tape, 11)
-}
-
-fn read_changed(run: bool, rows: usize, tape: &mut [u8], n: usize, at: usize, byte: u8) -> Changed {
+// The byte is changed, and back again after the call.
+fn read_changed(tape: &mut [u8], n: usize, at: usize, byte: u8) -> Changed {
     if tape.len() <= at {
         return Changed {
             of_form: false,
@@ -205,28 +207,31 @@ fn read_changed(run: bool, rows: usize, tape: &mut [u8], n: usize, at: usize, by
     }
     let before = tape[at];
     tape[at] = byte;
-    let of_form = stays_of_form(run, at, before, byte);
-    let right = answer_right(front(tape, n), of_form, rows);
+    let stated = decode(front(tape, n));
+    let right = answered(front(tape, n), stated);
     tape[at] = before;
-    Changed { of_form, right }
+    Changed {
+        of_form: stated.of_form,
+        right,
+    }
 }
 
-fn read_changes_at(run: bool, tape: &mut [u8], n: usize, at: usize) -> Tally {
+fn read_changes_at(tape: &mut [u8], n: usize, at: usize) -> Tally {
     let mut tally = none();
     let mut byte: u16 = 0;
     while byte < 256 {
-        let changed = read_changed(run, 4, tape, n, at, byte as u8);
+        let changed = read_changed(tape, n, at, byte as u8);
         tally = one_more(tally, changed.of_form, changed.right);
         byte += 1;
     }
     tally
 }
 
-fn read_changes_in(run: bool, tape: &mut [u8], n: usize) -> Tally {
+fn read_changes_in(tape: &mut [u8], n: usize) -> Tally {
     let mut tally = none();
     let mut at: usize = 0;
     while at < n {
-        tally = both(tally, read_changes_at(run, tape, n, at));
+        tally = both(tally, read_changes_at(tape, n, at));
         at += 1;
     }
     tally
@@ -235,33 +240,30 @@ fn read_changes_in(run: bool, tape: &mut [u8], n: usize) -> Tally {
 // A tape of four rows, with each byte changed to each value.
 fn read_changes(run: bool) -> Tally {
     let mut tape = [0u8; 400];
-    let n = tape_of(run, 4, 5, &mut tape);
-    read_changes_in(run, &mut tape, n)
+    let n = write_tape(stated_by(run, 4, 5), &mut tape);
+    read_changes_in(&mut tape, n)
 }
 
 // ---- random tapes
 
 // The rows are 0 to 64 in turn.
-fn tape_at(run: bool, turn: u64, tape: &mut [u8]) -> usize {
-    tape_of(run, rows_at(turn), next(next(turn)), tape)
-}
-
-fn rows_at(turn: u64) -> usize {
-    (turn % 65) as usize
+fn stated_at(run: bool, turn: u64) -> Stated {
+    stated_by(run, (turn % 65) as usize, next(next(turn)))
 }
 
 fn read_whole(run: bool, turn: u64) -> bool {
+    let made = stated_at(run, turn);
     let mut tape = [0u8; 400];
-    let n = tape_at(run, turn, &mut tape);
-    restated(front(&tape, n), rows_at(turn))
+    let n = write_tape(made, &mut tape);
+    accepted(front(&tape, n), made)
 }
 
 fn read_damaged(run: bool, turn: u64) -> Changed {
     let mut tape = [0u8; 400];
-    let n = tape_at(run, turn, &mut tape);
+    let n = write_tape(stated_at(run, turn), &mut tape);
     let seed = next(next(next(turn)));
     let at = below(seed, n as u64) as usize;
-    read_changed(run, rows_at(turn), &mut tape, n, at, byte_of(next(seed)))
+    read_changed(&mut tape, n, at, byte_of(next(seed)))
 }
 
 fn read_random(run: bool, turns: u64) -> Tally {

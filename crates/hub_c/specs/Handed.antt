@@ -1,4 +1,4 @@
--- How an answer, a report and the receivers' open hours are handed over to C: by numbers alone.
+-- Believed: How an answer, a report and the receivers' open hours are handed over to C: by numbers alone.
 use mathlib.Core.Bool.{Bool, true, false}
 use Prim.Native.Nat.{ℕ}
 use mathlib.Core.List.{List}

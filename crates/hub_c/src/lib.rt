@@ -1,5 +1,6 @@
-// The hub planner's functions for C and Rust. A round and a run have a function each, so that no bad kind can be passed. A slice is handed over as its address and
-// its length; lists that are lent to one call must not overlap each other. No function has a `requires`: each answers every input.
+// The hub planner's functions for C and Rust. A round and a run have a function each, so that no bad kind can be passed. No function has a `requires`: each answers every
+// input. Each list is the address of its first element and its length in elements; the address is not NULL, also where the length is 0, and is aligned for its type; a
+// list that is written overlaps no other list of the same call.
 ghost use mathlib.Core.Path.{_≡_};
 ghost use Rattle.window.specs.declared.Kind.the-variants.{Round, Run};
 ghost use Rattle.table.specs.Tables.{settingOf, table};

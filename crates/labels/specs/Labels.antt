@@ -1,4 +1,4 @@
--- Lists of labels, one label a row, whatever the rows are: how many rows are heard, paper 01's order of label lists, two-track assignments and the best of a class of label lists.
+-- Believed: Lists of labels, one label a row, whatever the rows are: how many rows are heard, paper 01's order of label lists, two-track assignments and the best of a class of label lists.
 use Prim.Native.Nat.{ℕ, zero, suc, _+_, _≤_, _<_}
 use mathlib.Core.Path.{_≡_}
 use mathlib.Core.Logic.{_≢_, _⊎_}

@@ -10,9 +10,14 @@ use borrow.Author.Tests.{eqb-true, eqb-false, eq-eqb, ne-eqb, leb-true, leb-fals
 use lib.Dec.{eqb, leb}
 use lib.ListN.{length}
 use Rattle.basics.specs.Lists.{at}
-use Rattle.labels.specs.Labels.{hears, heard}
+use Rattle.labels.specs.Labels.{hears, heard, Assignment}
 use Rattle.labels.specs.Permission.{permits}
-use Rattle.line.specs.Line.{Row, row, rows, when, gain, cell, best, Line, Settled}
+use Rattle.line.specs.Line.{Row, row, rows, when, gain, cell, best, Line}
+
+-- labels that obey every permission and leave no two rows of one receiver with a tick in common
+abbrev pub Settled : List ℕ → List ℕ → List ℕ → List ℕ → Type 0
+Settled starts ends perms =
+    Assignment (length starts) (λ i x. permits (at perms i) x ≡ true) (λ i j. (at ends i ≤ at starts j) ⊎ (at ends j ≤ at starts i) → ⊥)
 
 -- Receiver y is busy until f y; so it is after a row that ends at e got the label x.
 abbrev put : (ℕ → ℕ) → ℕ → ℕ → ℕ → ℕ

@@ -13,10 +13,25 @@ use lib.Seq.{getD-set-same, getD-set-other, drop-set-lt, getD-drop}
 use Rattle.basics.specs.Lists.{at}
 use Rattle.line.specs.Line.{row, rows, cell, best, Line}
 use Rattle.line.specs.Cells.{cellAt, endAt, lowAt, Lows, across, cellBytes, coreBytes}
-use Rattle.line.specs.Stage.{carry, carryAt, Live, Turn, LiveBelow, newCell, Small, RowMade, StageMade, startAt, Holds, LowsMade}
+use Rattle.line.specs.Stage.{carry, carryAt, Live, Turn, LiveBelow, newCell, Small, RowMade, StageMade}
 use Rattle.line.proofs.Laws.{endAt-pos, Carried, over, live, carry-is, best-le, Same, best-same, drop-rows, length-rows, start-rows, rowAt}
 use Rattle.basics.proofs.Tests.{le-or-lt}
 use Rattle.basics.proofs.Lists.{getD-any}
+
+-- the start of row k; past the last row a tick at which every row is over
+abbrev pub startAt : List ℕ → ℕ → ℕ
+startAt starts k = getD starts k 65535
+
+-- the cells that matter hold what is best from row k on
+abbrev pub Holds : List ℕ → List ℕ → List ℕ → ℕ → List ℕ → Type 0
+Holds ss es ps k t =
+    (a b : ℕ) → a ≤ k → b ≤ k → Live es (startAt ss k) a → Live es (startAt ss k) b → cellAt t a b ≡ best (drop k (rows ss es ps)) (endAt es a) (endAt es b)
+
+-- the low rows of the rows before n stand after the cells
+pub record LowsMade (starts ends : List ℕ) (n : ℕ) (t t′ : List ℕ) : Type 0 where
+  pub within : (k : ℕ) → k < n → getD t′ (cellBytes + k) 0 ≤ k
+  pub over : (k i : ℕ) → k < n → i < getD t′ (cellBytes + k) 0 → at ends i ≤ at starts k
+  pub rest : drop coreBytes t′ ≡ drop coreBytes t
 
 -- ---- the next last row to visit
 

@@ -1,4 +1,4 @@
--- The working space of the line program: 65 by 65 cells of a byte, and after them, for each row, the first row that can still matter when its turn comes.
+-- Inner: The working space of the line program: 65 by 65 cells of a byte, and after them, for each row, the first row that can still matter when its turn comes.
 use mathlib.Core.List.{List, [], _∷_}
 use Prim.Native.Nat.{ℕ, _+_, _*_, _≤_, _<_}
 use lib.ListN.{length, getD}

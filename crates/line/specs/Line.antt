@@ -1,14 +1,12 @@
--- Rows on a line, in order of their starts, and the most of them that two receivers can hear.
+-- Inner: Rows on a line, in order of their starts, and the most of them that two receivers can hear.
 use mathlib.Core.Path.{_≡_}
 use mathlib.Core.List.{List, [], _∷_}
 use mathlib.Core.Bool.{Bool, true, false, _&&_}
-use mathlib.Core.Logic.{_⊎_}
 use Prim.Native.Nat.{ℕ, zero, suc, _≤_, _<_, max}
 use lib.Dec.{leb}
 use lib.ListN.{length}
 use Rattle.basics.specs.Limits.{maxRows}
 use Rattle.basics.specs.Lists.{at}
-use Rattle.labels.specs.Labels.{Assignment}
 use Rattle.labels.specs.Permission.{permits}
 
 pub record Row : Type 0 where
@@ -52,8 +50,3 @@ pub record Line (starts ends perms : List ℕ) : Type 0 where
   pub each-perm : length perms ≡ length starts
   pub order : (i j : ℕ) → i < j → j < length starts → at starts i ≤ at starts j
   pub proper : (i : ℕ) → i < length starts → at starts i < at ends i
-
--- labels that obey every permission and leave no two rows of one receiver with a tick in common
-abbrev pub Settled : List ℕ → List ℕ → List ℕ → List ℕ → Type 0
-Settled starts ends perms =
-    Assignment (length starts) (λ i x. permits (at perms i) x ≡ true) (λ i j. (at ends i ≤ at starts j) ⊎ (at ends j ≤ at starts i) → ⊥)

@@ -1,4 +1,4 @@
--- The turn of one row in the line program: which cells it makes new, and from which.
+-- Inner: The turn of one row in the line program: which cells it makes new, and from which.
 use mathlib.Core.Path.{_≡_}
 use mathlib.Core.List.{List}
 use mathlib.Core.Bool.{cond}
@@ -8,8 +8,8 @@ use lib.Dec.{leb}
 use lib.ListN.{length, getD, drop}
 use Rattle.basics.specs.Limits.{maxRows}
 use Rattle.basics.specs.Lists.{at}
-use Rattle.line.specs.Line.{cell, best, rows}
-use Rattle.line.specs.Cells.{cellAt, endAt, across, cellBytes, coreBytes}
+use Rattle.line.specs.Line.{cell}
+use Rattle.line.specs.Cells.{cellAt, endAt, across, cellBytes}
 
 -- a last row a, which ends at e, as a row that starts at `next` sees it: none, where it is over by then
 unfoldable pub carry : ℕ → ℕ → ℕ → ℕ
@@ -57,18 +57,3 @@ pub record StageMade (L : ℕ → Type 0) (N : ℕ → ℕ → ℕ) (k m : ℕ) 
   pub new : (a b : ℕ) → m ≤ a → a ≤ k → b ≤ k → L a → L b → cellAt t′ a b ≡ N a b
   pub kept : (j : ℕ) → (m * across ≤ j → j < (k + 1) * across → ⊥) → getD t′ j 0 ≡ getD t j 0
   pub rest : drop cellBytes t′ ≡ drop cellBytes t
-
--- the start of row k; past the last row a tick at which every row is over
-abbrev pub startAt : List ℕ → ℕ → ℕ
-startAt starts k = getD starts k 65535
-
--- the cells that matter hold what is best from row k on
-abbrev pub Holds : List ℕ → List ℕ → List ℕ → ℕ → List ℕ → Type 0
-Holds ss es ps k t =
-    (a b : ℕ) → a ≤ k → b ≤ k → Live es (startAt ss k) a → Live es (startAt ss k) b → cellAt t a b ≡ best (drop k (rows ss es ps)) (endAt es a) (endAt es b)
-
--- the low rows of the rows before n stand after the cells
-pub record LowsMade (starts ends : List ℕ) (n : ℕ) (t t′ : List ℕ) : Type 0 where
-  pub within : (k : ℕ) → k < n → getD t′ (cellBytes + k) 0 ≤ k
-  pub over : (k i : ℕ) → k < n → i < getD t′ (cellBytes + k) 0 → at ends i ≤ at starts k
-  pub rest : drop coreBytes t′ ≡ drop coreBytes t

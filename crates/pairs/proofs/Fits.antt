@@ -16,8 +16,12 @@ use Rattle.labels.specs.Permission.{permits}
 use Rattle.basics.proofs.Tests.{leb-iff, or-iff}
 use Rattle.arcs.specs.Positions.{clear}
 use Rattle.arcs.specs.Order.{Crossing}
-use Rattle.pairs.specs.Pairs.{Cleared, beside, pairLabel, leaves, PairFit, AnyFit}
+use Rattle.pairs.specs.Pairs.{Cleared, beside, pairLabel, leaves, PairFit, Within, SecondFit}
 use Rattle.pairs.proofs.Leaves.{left-iff, chosen, leaves-front, leaves-rest, rest-leaves, given-chosen}
+
+-- labels that any pair fits
+abbrev pub AnyFit : List ℕ → List ℕ → List ℕ → ℕ → List ℕ → Type 0
+AnyFit positions ends perms m = Within (SecondFit positions ends perms m) 0 m
 
 -- ---- arcs by position and end
 

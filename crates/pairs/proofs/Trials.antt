@@ -13,10 +13,10 @@ use Rattle.basics.proofs.Tests.{and-iff, ltb-iff, eqb-iff, cond-le}
 use Rattle.line.specs.Line.{Line, best, rows}
 use Rattle.line.specs.Cells.{lowAt, Lows, cellBytes}
 use Rattle.pairs.specs.Capped.{Capped, Rows, Ready}
-use Rattle.pairs.specs.Pairs.{gathered, Cleared, PairFit, Within, AnyFit, Leaving, twice, one, withPair}
+use Rattle.pairs.specs.Pairs.{gathered, Cleared, PairFit, Within, Leaving, twice, one, withPair}
+use Rattle.pairs.proofs.Fits.{AnyFit, fit-iff}
 use Rattle.pairs.proofs.Caps.{most-capped, capped-iff, within-none, within-more, within-reached}
 use Rattle.labels.proofs.Permissions.{none-permitted}
-use Rattle.pairs.proofs.Fits.{fit-iff}
 use Rattle.pairs.proofs.Value.{line, pair-most, best-le}
 
 pub one-le : (m w : ℕ) → one m w ≤ 1

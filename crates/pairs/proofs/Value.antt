@@ -15,8 +15,8 @@ use Rattle.labels.specs.Labels.{hears, heard}
 use Rattle.labels.specs.Permission.{permits}
 use Rattle.labels.proofs.Heard.{heard-nil, heard-append, heard-more, heard-le}
 use Rattle.arcs.specs.Order.{InOrder, Crossing}
-use Rattle.line.specs.Line.{Line, Settled, best, rows}
-use Rattle.line.proofs.Optimum.{line-sound, line-complete}
+use Rattle.line.specs.Line.{Line, best, rows}
+use Rattle.line.proofs.Optimum.{Settled, line-sound, line-complete}
 use Rattle.arcs.proofs.Sorting.{key-other}
 use Rattle.pairs.specs.Capped.{Most}
 use Rattle.pairs.specs.Pairs.{pairLabel, leftOf, PairFit, LeftAll, one, withPair}

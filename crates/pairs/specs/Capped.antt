@@ -1,4 +1,4 @@
--- How many the best of a class of label lists hears, as far as a cap.
+-- Inner: How many the best of a class of label lists hears, as far as a cap.
 use Prim.Native.Nat.{ℕ, suc, _≤_, _<_}
 use mathlib.Core.Path.{_≡_}
 use mathlib.Core.List.{List}

@@ -1,4 +1,4 @@
--- Rows in order, the first m of which cross the cut: pairs of crossing rows, one for each receiver, and the permissions that a pair leaves.
+-- Inner: Rows in order, the first m of which cross the cut: pairs of crossing rows, one for each receiver, and the permissions that a pair leaves.
 use mathlib.Core.Path.{_≡_}
 use mathlib.Core.Logic.{_⊎_}
 use mathlib.Core.Bool.{Bool, true, false, cond, _&&_, _||_}
@@ -55,12 +55,9 @@ pub record Within (D : ℕ → List ℕ → Type 0) (k m : ℕ) (labels : List �
   pub high : choice ≤ m
   pub member : D choice labels
 
--- labels that some pair with the crossing row w1 on receiver 1 fits, and those that any pair fits
+-- labels that some pair with the crossing row w1 on receiver 1 fits
 abbrev pub SecondFit : List ℕ → List ℕ → List ℕ → ℕ → ℕ → List ℕ → Type 0
 SecondFit positions ends perms m w1 = Within (PairFit positions ends perms m w1) 0 m
-
-abbrev pub AnyFit : List ℕ → List ℕ → List ℕ → ℕ → List ℕ → Type 0
-AnyFit positions ends perms m = Within (SecondFit positions ends perms m) 0 m
 
 -- what the pair (w1, w2) leaves of each permission stands in `left`, for the first n rows, and is not nothing
 pub record LeftAll (positions ends perms : List ℕ) (m w1 w2 n : ℕ) (left : List ℕ) : Type 0 where

@@ -3,12 +3,14 @@ use Prim.Native.Nat.{ℕ}
 use mathlib.Core.Path.{_≡_, refl}
 use mathlib.Core.List.{List, [], _∷_, _++_}
 use lib.ListN.{replicate}
-use Rattle.window.specs.declared.Kind.the-variants.{Round}
+use Rattle.window.specs.Rows.{row}
+use Rattle.window.specs.declared.Row.{Row}
+use Rattle.window.specs.declared.Kind.the-variants.{Round, Run}
 use Rattle.refusals.specs.declared.Refusal.{Refusal}
-use Rattle.refusals.specs.declared.Refusal.the-variants.{Accepted, NotPlan, Buffer}
+use Rattle.refusals.specs.declared.Refusal.the-variants.{Accepted, Lists, Rows, Ticks, Hours, Window, Mark, NotPlan, Buffer}
 use Rattle.refusals.specs.Refusals.{answered}
-use Rattle.window.specs.Hours.{noHours}
-use Rattle.table.specs.Tables.{settingOf, Table, table}
+use Rattle.window.specs.Hours.{hoursFrom, noHours}
+use Rattle.table.specs.Tables.{settingOf, Table, table, tableOf}
 use Rattle.plan_tape.specs.PlanTapes.{planTape}
 use Rattle.plan_tape.specs.Written.{Written, writing, written}
 
@@ -52,3 +54,19 @@ pub session :
     × (written P2 (1 ∷ 2 ∷ 3 ∷ 1 ∷ []) (replicate 25 9) ≡ refused NotPlan 25)
 unfolding written
 session = (refl, refl, refl, refl)
+
+-- "Writer's order: 1, 2, 4, 5, rows for 6 and 7, 9, 10": of several faults the first is reported, and the buffer is untouched
+abbrev faulty : ℕ → List (List ℕ) → Row → Table
+faulty R hours r = tableOf (settingOf Run R hours) (r ∷ [])
+
+pub order :
+    (written (table (settingOf Run 1 noHours) (replicate 65 3) (replicate 64 3) (replicate 65 9)) (replicate 65 3) (9 ∷ []) ≡ refused Lists 1)
+    × (written (tableOf (settingOf Run 1 noHours) (replicate 65 (row 3 3 9))) (replicate 65 3) (9 ∷ []) ≡ refused Rows 1)
+    × (written (faulty 1 (hoursFrom 9 8 0 0) (row 3 3 9)) (3 ∷ []) (9 ∷ []) ≡ refused Ticks 1)
+    × (written (faulty 10 (hoursFrom 9 8 0 0) (row 3 3 9)) (3 ∷ []) (9 ∷ []) ≡ refused Hours 1)
+    × (written (faulty 10 (hoursFrom 0 10 0 10) (row 3 3 9)) (3 ∷ []) (9 ∷ []) ≡ refused Window 1)
+    × (written (faulty 10 (hoursFrom 0 10 0 10) (row 3 4 9)) (3 ∷ []) (9 ∷ []) ≡ refused Mark 1)
+    × (written (faulty 10 (hoursFrom 0 10 0 10) (row 3 4 0)) (3 ∷ []) (9 ∷ []) ≡ refused NotPlan 1)
+    × (written (faulty 10 (hoursFrom 0 10 0 10) (row 3 4 0)) (2 ∷ []) (9 ∷ []) ≡ refused Buffer 1)
+unfolding written
+order = (refl, refl, refl, refl, refl, refl, refl, refl)

@@ -1,4 +1,4 @@
--- The right answer of a writer call, whole: refusal, count and what the tape buffer then holds, on every input.
+-- Believed: The right answer of a writer call, whole: refusal, count and what the tape buffer then holds, on every input.
 use Prim.Native.Nat.{ℕ, _+_, _*_, _≤_, _<_}
 use mathlib.Core.Path.{_≡_}
 use mathlib.Core.Logic.{_≢_, _↔_}
@@ -20,6 +20,11 @@ use Rattle.plan_tape.specs.PlanTapes.{planTape}
 unfoldable pub tapeOf : Table → List ℕ → List ℕ
 unfolding planTape
 tapeOf t labels = planTape (t .setting .kind) (t .setting .ticks) (t .starts) (t .ends) labels
+
+-- "Writer's order: 1, 2, 4, 5, rows for 6 and 7", the checks before 9
+unfoldable pub labelled : Table → List ℕ → Refusal
+unfolding lengthsRefusal tableLooked
+labelled t labels = listsRefusal t labels then tableLooked t .refusal
 
 -- "Writer's order: 1, 2, 4, 5, rows for 6 and 7, 9, 10." "9: labels offered to the writer are not a plan." "10: plan tape buffer shorter than the tape."
 unfoldable pub writeRefusal : Table → List ℕ → ℕ → Refusal

@@ -101,7 +101,7 @@ fn is_open(run: bool, hours: [u16; 4], label: u8, start: u16, end: u16) -> bool 
     end <= hours[3]
 }
 
-// Whether rows i and j overlap and row j has the label.
+// Whether rows i and j overlap, by the product's own test, and row j has the label.
 fn clashes(
     starts: &[u16; 65],
     ends: &[u16; 65],

@@ -1,4 +1,5 @@
 // Runs the plan tape writer on paper 01's session, on calls that it must refuse, and on plans made by chance, whose tapes it reads back.
+// Product code has a part in the inputs: `table::setting_of` makes the setting of a call, `window::overlap` the plans (see plan_tape_made).
 ghost use Prim.Native.Nat.{_≤_};
 use plan_tape_made::made::Head;
 use plan_tape_made::made::Lent;

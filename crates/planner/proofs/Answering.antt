@@ -1,51 +1,24 @@
--- What the planner's parts report is what `planCall` yields: the core's answer is the best plan or none, a refusal changes nothing, and the working space is cleared where paper 01 says so.
+-- What the planner's parts report is what `planCall` yields: the best plan or none, a refusal changes nothing, and the working space is cleared where paper 01 says so.
 use Prim.Native.Nat.{ℕ, _-_, _≤_, _<_}
 use mathlib.Core.Path.{_≡_, refl, sym, ap, _∙_}
-use mathlib.Core.List.{List, map, _++_}
+use mathlib.Core.List.{List, _++_}
 use mathlib.Core.Option.{Option, none, some}
 use native.Mathlib.Omega.{arith}
 use lib.ListN.{length, drop, replicate}
 use lib.Seq.{drop-drop}
 use borrow.Author.Tests.{ne-eqb, le-leb, lt-leb}
 use Rattle.line.specs.Cells.{coreBytes}
-use Rattle.labels.specs.Labels.{heard}
-use Rattle.labels.specs.Permission.{labelOf}
-use Rattle.labels.proofs.Best.{best-iff}
-use Rattle.arcs.specs.Arcs.{Assigned}
 use Rattle.refusals.specs.declared.Refusal.{Refusal}
-use Rattle.refusals.specs.declared.Refusal.the-variants.{Accepted, Space, NoPlan}
+use Rattle.refusals.specs.declared.Refusal.the-variants.{Space}
 use Rattle.refusals.specs.declared.Answer.{Answer}
 use Rattle.refusals.specs.Refusals.{numberOf, answered, _then_}
 use Rattle.refusals.proofs.Refusals.{Passed, then-first, then-next}
-use Rattle.table.specs.Tables.{Table, Valid}
+use Rattle.table.specs.Tables.{Table}
 use Rattle.table.specs.Checks.{listsRefusal, tableLooked}
 use Rattle.table.specs.Planned.{spaceBytes, spaceRefusal, checked, bestPlan, Planned, answering, given, planned, spaceAfter, called, planCall, Demand3}
+use Rattle.best_plan.specs.Rows.{Checked}
 use Rattle.table.proofs.Checked.{Not8, checked-8, checked-valid}
-use Rattle.table.proofs.Rivals.{best-plan, no-plan, planned-passed, planned-refused, demand-3}
-use Rattle.tracks.specs.Tracks.{Answered}
-use Rattle.planner.specs.Rows.{circleOf, ArcsOf, Checked}
-use Rattle.planner.proofs.Rows.{plan-assigned}
-
--- ---- a checked table
-
-module _ (t : Table) (valid : Valid t) (before : List ℕ) {starts lengths perms : List ℕ} (arcs : ArcsOf t starts lengths perms)
-    {r : ℕ} {left : List ℕ} (a : Answered (Assigned (circleOf (t .setting)) starts lengths perms) r left) where
-  none-left : r ≡ 0 → bestPlan t ≡ none
-  none-left e = no-plan t valid .1 (λ l P. a .none e l (plan-assigned t valid arcs l .0 P))
-
-  one-left : 0 < r → bestPlan t ≡ some (map labelOf left)
-  one-left h = best-plan t valid (map labelOf left) .1 (best-iff (λ l. (plan-assigned t valid arcs l .1, plan-assigned t valid arcs l .0)) (a .found h))
-
-  pub none-given : r ≡ 0 → answering (answered NoPlan 0) before ≡ given (bestPlan t) before
-  unfolding given
-  none-given e = rw (none-left e) refl
-
-  pub one-given : (r ≡ 0 → ⊥) → (after : List ℕ) → after ≡ map labelOf left → answering (answered Accepted (r - 1)) after ≡ given (bestPlan t) before
-  unfolding given
-  one-given n after e =
-      let h : 0 < r = omega (arith, n) in
-      let k : r - 1 ≡ heard (map labelOf left) = omega (arith, a .count h) in
-      rw (one-left h, e, k) refl
+use Rattle.table.proofs.Rivals.{planned-passed, planned-refused, demand-3}
 
 -- ---- a refusal
 

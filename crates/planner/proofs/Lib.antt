@@ -1,3 +1,2 @@
 -- Laws of the planner.
-pub mod Rows
 pub mod Answering

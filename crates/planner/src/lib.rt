@@ -1,168 +1,13 @@
 // The planner: from a lent table to the plan that hears the most, of those the first in paper 01's order, or a refusal.
 ghost use mathlib.Core.Path.{_≡_};
-ghost use mathlib.Core.List.{_++_, map};
-ghost use Prim.Native.Nat.{_≤_};
-ghost use lib.ListN.{length, drop, replicate};
-ghost use Rattle.line.specs.Cells.{coreBytes};
-ghost use Rattle.labels.specs.Permission.{labelOf};
+ghost use lib.ListN.{length};
 ghost use Rattle.refusals.specs.Refusals.{numberOf};
-ghost use Rattle.table.specs.Tables.{table, Valid, ValidRow};
-ghost use Rattle.table.specs.Planned.{spaceBytes, checked, bestPlan, answering, given, called, planCall, Demand3};
-ghost use Rattle.planner.specs.Rows.{circleOf, arcOf, permissionOf, ArcLists, ArcsOf, Checked};
-use basics::MAX_ROWS;
+ghost use Rattle.table.specs.Tables.{table};
+ghost use Rattle.table.specs.Planned.{checked, called, planCall, Demand3};
+use best_plan::SPACE_BYTES;
 use refusals::Answer;
 use refusals::Refusal;
 use table::Setting;
-use window::Row;
-
-// The working space that a call needs and clears, in bytes.
-pub const SPACE_BYTES: usize = 16384;
-
-// An arc of a circle: its first tick and how many ticks it has.
-pub struct Arc {
-    pub start: u16,
-    pub length: u16,
-}
-
-// The ticks of the circle on which a table's rows are arcs.
-fn circle_of(setting: Setting) -> u16
-    ensures { λ r. ⌜ r ≡ circleOf setting ⌝ }
-{
-    setting.ticks
-}
-
-// The arc of a row.
-fn arc_of(setting: Setting, row: Row) -> Arc
-    requires { ⌜ ValidRow setting row ⌝ }
-    ensures { λ r. ⌜ r ≡ arcOf setting row ⌝ }
-{
-    let kind = setting.kind;
-    let start = row.start;
-    let length = window::ticks_in(kind, setting.ticks, start, row.end);
-    Arc { start, length }
-}
-
-// The labels that a row may have, as a permission.
-fn permission(setting: Setting, row: Row) -> u8
-    ensures { λ r. ⌜ r ≡ permissionOf setting row ⌝ }
-{
-    labels::permission::permission_of(
-        table::plan::is_allowed(setting, row, 0),
-        table::plan::is_allowed(setting, row, 1),
-        table::plan::is_allowed(setting, row, 2),
-    )
-}
-
-// Writes the arcs and permissions of the rows of a checked table.
-fn set_arcs(
-    setting: Setting,
-    starts: &[u16],
-    ends: &[u16],
-    marks: &[u8],
-    arc_starts: &mut [u16],
-    arc_lengths: &mut [u16],
-    perms: &mut [u8],
-)
-    requires { ⌜ Valid (table setting (now starts) (now ends) (now marks)) ⌝ }
-    requires { ⌜ ArcLists (table setting (now starts) (now ends) (now marks)) (now «arc_starts») (now «arc_lengths») (now perms) ⌝ }
-    ensures { λ r. ⌜ ArcsOf (table setting (now (starts .entry)) (now (ends .entry)) (now (marks .entry))) (now («arc_starts» .exit)) (now («arc_lengths» .exit)) (now (perms .exit)) ⌝ }
-{
-    let mut i: usize = 0;
-    while i < starts.len() {
-        let row = table::row_at(starts, ends, marks, i);
-        let arc = arc_of(setting, row);
-        arc_starts[i] = arc.start;
-        arc_lengths[i] = arc.length;
-        perms[i] = permission(setting, row);
-        i += 1;
-    }
-}
-
-// Writes the label of each permission.
-fn set_labels(perms: &[u8], labels: &mut [u8])
-    requires { ⌜ length (now labels) ≡ length (now perms) ⌝ }
-    ensures { λ r. ⌜ now (labels .exit) ≡ map labelOf (now (perms .entry)) ⌝ }
-{
-    let mut i: usize = 0;
-    while i < perms.len() {
-        labels[i] = labels::permission::label_of(perms[i]);
-        i += 1;
-    }
-}
-
-// Plans a checked table over lent lists for its arcs and permissions.
-fn plan_lent(
-    setting: Setting,
-    starts: &[u16],
-    ends: &[u16],
-    marks: &[u8],
-    labels: &mut [u8],
-    space: &mut [u8],
-    arc_starts: &mut [u16],
-    arc_lengths: &mut [u16],
-    perms: &mut [u8],
-) -> Answer
-    requires { ⌜ Checked (table setting (now starts) (now ends) (now marks)) (now labels) (now space) ⌝ }
-    requires { ⌜ ArcLists (table setting (now starts) (now ends) (now marks)) (now «arc_starts») (now «arc_lengths») (now perms) ⌝ }
-    ensures { λ r. ⌜ answering r (now (labels .exit)) ≡ given (bestPlan (table setting (now (starts .entry)) (now (ends .entry)) (now (marks .entry)))) (now (labels .entry)) ⌝ }
-    ensures { λ r. ⌜ drop coreBytes (now (space .exit)) ≡ drop coreBytes (now (space .entry)) ⌝ }
-{
-    set_arcs(setting, starts, ends, marks, arc_starts, arc_lengths, perms);
-    let circle = circle_of(setting);
-    let best = tracks::best_assignment(circle, arc_starts, arc_lengths, perms, space);
-    if best == 0 {
-        return refusals::refused(Refusal::NoPlan);
-    }
-    set_labels(perms, labels);
-    let count = (best - 1) as usize;
-    Answer {
-        refusal: Refusal::Accepted,
-        count,
-    }
-}
-
-// Plans a table that has passed its checks. It leaves open what the first 4,608 bytes of the working space then hold.
-// Arrays held in this crate and in `tracks`, which it calls: 128 + 128 + 64 bytes here and 128 there, 448 in sum.
-pub fn plan_checked(
-    setting: Setting,
-    starts: &[u16],
-    ends: &[u16],
-    marks: &[u8],
-    labels: &mut [u8],
-    space: &mut [u8],
-) -> Answer
-    requires { ⌜ Checked (table setting (now starts) (now ends) (now marks)) (now labels) (now space) ⌝ }
-    ensures { λ r. ⌜ answering r (now (labels .exit)) ≡ given (bestPlan (table setting (now (starts .entry)) (now (ends .entry)) (now (marks .entry)))) (now (labels .entry)) ⌝ }
-    ensures { λ r. ⌜ drop coreBytes (now (space .exit)) ≡ drop coreBytes (now (space .entry)) ⌝ }
-{
-    let mut arc_starts = [0u16; MAX_ROWS];
-    let mut arc_lengths = [0u16; MAX_ROWS];
-    let mut perms = [0u8; MAX_ROWS];
-    let n = starts.len();
-    plan_lent(
-        setting,
-        starts,
-        ends,
-        marks,
-        labels,
-        space,
-        &mut arc_starts[..n],
-        &mut arc_lengths[..n],
-        &mut perms[..n],
-    )
-}
-
-// Clears the working space as far as a call needs it.
-fn clear_space(space: &mut [u8])
-    requires { ⌜ spaceBytes ≤ length (now space) ⌝ }
-    ensures { λ r. ⌜ now (space .exit) ≡ replicate spaceBytes 0 ++ drop spaceBytes (now (space .entry)) ⌝ }
-{
-    let mut i: usize = 0;
-    while i < SPACE_BYTES {
-        space[i] = 0;
-        i += 1;
-    }
-}
 
 // THE PLANNER. What a call gives, answer, labels and working space, is what the definition `planCall` yields, on every input, whatever labels and working space
 // held before. So, spelled out: where all checks before 8 pass, answer and labels are as demand 3 asks.
@@ -189,7 +34,7 @@ pub fn plan(
     if refusals::number(refusal2) != 0 {
         return refusals::refused(refusal2);
     }
-    let answer = plan_checked(setting, starts, ends, marks, labels, space);
-    clear_space(space);
+    let answer = best_plan::plan_checked(setting, starts, ends, marks, labels, space);
+    best_plan::clear_space(space);
     answer
 }

@@ -72,3 +72,20 @@ then-either P {a} {b} f g = go (passes a)
 pub asked-either : (P : Refusal → Type 0) (x : Bool) {r : Refusal} → P Accepted → P r → P (asked x r)
 asked-either P true f g = f
 asked-either P false f g = g
+
+-- ---- paper 01's numbers, written out
+
+pub numbers :
+    (numberOf Accepted ≡ 0)
+    × (numberOf Lists ≡ 1)
+    × (numberOf Rows ≡ 2)
+    × (numberOf Space ≡ 3)
+    × (numberOf Ticks ≡ 4)
+    × (numberOf Hours ≡ 5)
+    × (numberOf Window ≡ 6)
+    × (numberOf Mark ≡ 7)
+    × (numberOf NoPlan ≡ 8)
+    × (numberOf NotPlan ≡ 9)
+    × (numberOf Buffer ≡ 10)
+    × (numberOf Form ≡ 11)
+numbers = (refl, refl, refl, refl, refl, refl, refl, refl, refl, refl, refl, refl)

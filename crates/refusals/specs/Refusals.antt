@@ -1,4 +1,4 @@
--- The refusals of paper 01, "Who can cause a no", by their numbers; 0 is accepted.
+-- Believed: The refusals of paper 01, "Who can cause a no", by their numbers; 0 is accepted.
 use Prim.Native.Nat.{ℕ}
 use mathlib.Core.Bool.{Bool, cond}
 use lib.Dec.{eqb}

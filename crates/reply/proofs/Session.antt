@@ -2,7 +2,10 @@
 use Prim.Native.Nat.{ℕ}
 use mathlib.Core.Path.{_≡_, refl}
 use mathlib.Core.List.{List, [], _∷_}
-use Rattle.reply.specs.Lines.{printed}
+use Rattle.table.specs.Planned.{answering}
+use Rattle.refusals.specs.Refusals.{answered}
+use Rattle.refusals.specs.declared.Refusal.the-variants.{Buffer}
+use Rattle.reply.specs.Lines.{heardWord, wordLine, rowLine, printed}
 use Rattle.reply.specs.Replied.{tapeAnswer}
 
 -- "Input: `10 00 64 40 00 0A 00 1E 40 00 14 00 28 40 00 19 00 32 40 00 5A 00 0A 7F`"
@@ -27,3 +30,11 @@ lines =
 pub session-printed : printed (tapeAnswer session 16384) ≡ lines
 unfolding printed tapeAnswer
 session-printed = refl
+
+-- a count and a row number of two different digits, and a refusal of two digits
+pub two-digit-lines :
+    (wordLine heardWord 12 ≡ 104 ∷ 101 ∷ 97 ∷ 114 ∷ 100 ∷ 32 ∷ 49 ∷ 50 ∷ 10 ∷ [])
+    × (rowLine 63 2 ≡ 54 ∷ 51 ∷ 32 ∷ 50 ∷ 10 ∷ [])
+    × (printed (answering (answered Buffer 0) []) ≡ 114 ∷ 101 ∷ 102 ∷ 117 ∷ 115 ∷ 101 ∷ 100 ∷ 32 ∷ 49 ∷ 48 ∷ 10 ∷ [])
+unfolding wordLine rowLine printed
+two-digit-lines = (refl, refl, refl)

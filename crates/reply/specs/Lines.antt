@@ -1,4 +1,4 @@
--- The lines that `hubplan` prints (paper 01, "The program and one full session"), as bytes: one space between words, a newline after every line.
+-- Believed: The lines that `hubplan` prints (paper 01, "The program and one full session"), as bytes: one space between words, a newline after every line.
 use Prim.Native.Nat.{ℕ, zero, suc, _+_, _/_, _%_}
 use mathlib.Core.Bool.{cond}
 use mathlib.Core.List.{List, [], _∷_, _++_}

@@ -1,4 +1,4 @@
--- The right answer of a call of `reply`, whole: how many bytes it writes, and what the output and the working space then hold, on every input.
+-- Believed: The right answer of a call of `reply`, whole: how many bytes it writes, and what the output and the working space then hold, on every input.
 use Prim.Native.Nat.{ℕ, _≤_}
 use mathlib.Core.Path.{_≡_}
 use mathlib.Core.Bool.{cond}

@@ -1,4 +1,4 @@
--- What the inner functions ask: room in the output, and numbers of at most two digits.
+-- Inner: What the inner functions ask: room in the output, and numbers of at most two digits.
 use Prim.Native.Nat.{ℕ, _+_, _*_, _≤_, _<_}
 use mathlib.Core.Path.{_≡_}
 use mathlib.Core.List.{List}

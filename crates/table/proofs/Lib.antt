@@ -1,5 +1,6 @@
 -- Theorems about tables, plans and the right answer.
 pub mod Bench
+pub mod Edges
 pub mod Looking
 pub mod Testing
 pub mod Plans

@@ -6,6 +6,7 @@ use mathlib.Core.List.{List}
 use mathlib.Core.Option.{Option, none, some}
 use native.Mathlib.Omega.{arith}
 use borrow.Author.Tests.{eq-eqb, ne-eqb}
+use Rattle.refusals.specs.declared.Answer.{Answer}
 use Rattle.labels.specs.Labels.{Best}
 use Rattle.labels.proofs.Best.{Passes, first-best, first-none, best-iff, assignment-iff}
 use Rattle.refusals.specs.declared.Refusal.the-variants.{Accepted, NoPlan}
@@ -84,6 +85,23 @@ pub only-none : (t : Table) (before : List ℕ) (space : ℕ) → Passed (checke
     → planned t before space ≡ given none before
 only-none t before space p n =
     planned-passed t before space p ∙ ap (λ o. given o before) (no-plan t (checked-valid t before space p .0) .1 n)
+
+-- WHATEVER MEETS DEMAND 3 is what the planner gives: each of its sentences is needed.
+module _ (t : Table) (before : List ℕ) (space : ℕ) (p : Passed (checked t before space)) (answer : Answer) (labels : List ℕ) (d : Demand3 t answer labels) where
+  valid : Valid t
+  valid = checked-valid t before space p .0
+
+  pub only-refusal : answer .refusal ≡ planned t before space .answer .refusal
+  unfolding given
+  only-refusal = rw (planned-passed t before space p) (go (bestPlan t) refl)
+    where
+      go : (o : Option (List ℕ)) → bestPlan t ≡ o → answer .refusal ≡ given o before .answer .refusal
+      go none e = d .refused .1 (no-plan t valid .0 e)
+      go (some a) e = d .given .1 (a, best-plan t valid a .0 e .member)
+
+  pub only-answer : answer .refusal ≡ Accepted → answering answer labels ≡ planned t before space
+  unfolding given
+  only-answer acc = rw (planned-passed t before space p, best-plan t valid labels .1 (d .best acc)) (λ i. answering (answered (acc i) (d .count acc i)) labels)
 
 -- The best plan depends on a table only through which labels each row may have and which rows overlap.
 pub same-best : (t u : Table) → Valid t → Valid u → rows t ≡ rows u

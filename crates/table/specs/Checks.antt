@@ -1,4 +1,4 @@
--- The checks of a table, each with the refusal that it gives (paper 01, "Who can cause a no"), in the order in which they are made.
+-- Believed: The checks of a table, each with the refusal that it gives (paper 01, "Who can cause a no"), in the order in which they are made.
 use Prim.Native.Nat.{ℕ, zero, suc, _+_}
 use mathlib.Core.Bool.{Bool, cond, _&&_}
 use mathlib.Core.List.{List}

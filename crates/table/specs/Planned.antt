@@ -1,4 +1,4 @@
--- The right answer of a planner call, whole: refusal, count, labels and working space, on every input. It speaks of plans, and says nothing of how one is found.
+-- Believed: The right answer of a planner call, whole: refusal, count, labels and working space, on every input. It speaks of plans, and says nothing of how one is found.
 use Prim.Native.Nat.{ℕ}
 use mathlib.Core.Path.{_≡_}
 use mathlib.Core.Logic.{_↔_}

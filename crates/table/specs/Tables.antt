@@ -1,4 +1,4 @@
--- A table of windows as it is lent, what a plan of it is (paper 01, "What a plan is"), and the test for it.
+-- Believed: A table of windows as it is lent, what a plan of it is (paper 01, "What a plan is"), and the test for it.
 use Prim.Native.Nat.{ℕ, zero, suc, _≤_, _<_}
 use mathlib.Core.Path.{_≡_}
 use mathlib.Core.Logic.{_≢_}

@@ -1,15 +1,20 @@
 -- The widths of the operands, as a table by command byte: its rule is proved once, by one computed test.
 use Prim.Native.Nat.{ℕ, _≤_, _<_}
 use mathlib.Core.Path.{_≡_, refl, ap}
-use mathlib.Core.Bool.{true, false, not}
+use mathlib.Core.Bool.{true, false, not, Bool, _||_}
 use mathlib.Core.List.{List, _∷_, _++_}
 use native.Mathlib.Omega.{arith}
 use native.Mathlib.Decide.{decLt}
 use borrow.Author.Tests.{ne-eqb}
 use lib.ListN.{getD, replicate}
+use lib.Dec.{eqb}
 use Rattle.basics.specs.Tests.{every}
 use Rattle.basics.proofs.Tests.{every-iff, imp-iff, eqb-iff, leb-iff}
-use Rattle.tape.specs.Commands.{isCommand, operandBytes}
+use Rattle.tape.specs.Commands.{operandBytes, ROUND, RUN, RECEIVER, LISTEN, WINDOW, MUST, HOURS, STOP}
+
+unfoldable pub isCommand : ℕ → Bool
+isCommand b =
+    eqb b ROUND || eqb b RUN || eqb b RECEIVER || eqb b LISTEN || eqb b WINDOW || eqb b MUST || eqb b HOURS || eqb b STOP
 
 -- sixteen places a line, from command 00
 abbrev widths : List ℕ

@@ -1,6 +1,6 @@
--- The commands of a tape and how many bytes of operands each has (paper 01, "Tapes": "commands of one byte, each with operands of fixed widths").
+-- Believed: The commands of a tape and how many bytes of operands each has (paper 01, "Tapes": "commands of one byte, each with operands of fixed widths").
 use Prim.Native.Nat.{ℕ}
-use mathlib.Core.Bool.{Bool, cond, _||_}
+use mathlib.Core.Bool.{cond}
 use lib.Dec.{eqb}
 
 -- the command bytes, in the order of paper 01's table
@@ -27,10 +27,6 @@ HOURS = 0x50
 
 abbrev pub STOP : ℕ
 STOP = 0x7F
-
-unfoldable pub isCommand : ℕ → Bool
-isCommand b =
-    eqb b ROUND || eqb b RUN || eqb b RECEIVER || eqb b LISTEN || eqb b WINDOW || eqb b MUST || eqb b HOURS || eqb b STOP
 
 -- The bytes of a command's operands: a 16-bit operand has two, an 8-bit operand one. Any other byte is no command and has none.
 unfoldable pub operandBytes : ℕ → ℕ

@@ -1,4 +1,4 @@
--- 16-bit operands of a tape as two bytes.
+-- Believed: 16-bit operands of a tape as two bytes.
 use Prim.Native.Nat.{ℕ, _+_, _*_, _/_, _%_}
 use mathlib.Core.List.{List, [], _∷_}
 

@@ -1,4 +1,4 @@
--- Narrowing: row after row is left one label alone, the first of 1, 2, 0 with which the most can still be heard.
+-- Inner: Narrowing: row after row is left one label alone, the first of 1, 2, 0 with which the most can still be heard.
 use mathlib.Core.Path.{_≡_}
 use mathlib.Core.Logic.{_⊎_}
 use mathlib.Core.Bool.{Bool, true, false}

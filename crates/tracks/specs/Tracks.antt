@@ -1,4 +1,4 @@
--- The best two-track assignment of arcs under permissions: what the two public functions promise.
+-- Inner: The best two-track assignment of arcs under permissions: what the two public functions promise.
 use mathlib.Core.Path.{_≡_}
 use mathlib.Core.Bool.{Bool, true, false}
 use mathlib.Core.List.{List, map}

@@ -213,8 +213,8 @@ fn solve(
     )
 }
 
-// The best assignment: 0 where there is none, else its count and one more, and each row's permission is left with its label alone.
-// What is left of starts and lengths and of the first 4,608 bytes of the space is open, and without an assignment of the permissions too.
+// The best assignment: 0 where there is none, else its count and one more, and its labels are those that `labelOf` gives of the permissions then.
+// What else the permissions hold is open, and so is what is left of starts and lengths and of the first 4,608 bytes of the space.
 pub fn best_assignment(
     circle: u16,
     starts: &mut [u16],

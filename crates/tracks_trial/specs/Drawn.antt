@@ -1,4 +1,4 @@
--- What is known of a table that the trial draws, so that it can be lent to `tracks`.
+-- Inner: What is known of a table that the trial draws, so that it can be lent to `tracks`.
 use Prim.Native.Nat.{ℕ, _≤_, _<_, _+_}
 use mathlib.Core.Path.{_≡_}
 use mathlib.Core.List.{List}

@@ -1,5 +1,5 @@
 // Calls of the planner and of the plan tape writer, each judged whole: the refusal's number, the count, every place of the list that is written,
-// every byte of the working space.
+// every byte of the working space. Product code has a part in each call: `table::setting_of` makes its setting, `refusals::number` gives the number of its refusal.
 ghost use Prim.Native.Nat.{_≤_};
 use refusals::Answer;
 use window::Kind;

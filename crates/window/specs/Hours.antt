@@ -1,4 +1,4 @@
--- The receivers' open hours, as they are lent.
+-- Believed: The receivers' open hours, as they are lent.
 use Prim.Native.Nat.{ℕ}
 use mathlib.Core.List.{List, [], _∷_}
 use lib.ListN.{getD}

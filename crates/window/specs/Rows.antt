@@ -1,4 +1,4 @@
--- Rows, and the lists in which they are lent.
+-- Believed: Rows, and the lists in which they are lent.
 use Prim.Native.Nat.{ℕ}
 use mathlib.Core.List.{List, map}
 use Rattle.window.specs.declared.Row.{Row}

@@ -1,4 +1,4 @@
--- Ticks of a circle, 0 to R - 1, and how far one lies after another.
+-- Inner: Ticks of a circle, 0 to R - 1, and how far one lies after another.
 use Prim.Native.Nat.{ℕ, _+_, _-_, _%_, _<_}
 
 -- two ticks of a circle of R ticks

@@ -1,4 +1,4 @@
--- Windows of a round or a run of R ticks: which ticks a window covers, and when two windows overlap (paper 01, "Ticks and windows"), for both kinds together.
+-- Believed: Windows of a round or a run of R ticks: which ticks a window covers, and when two windows overlap (paper 01, "Ticks and windows"), for both kinds together.
 use Prim.Native.Nat.{ℕ, zero, suc, _-_, _≤_, _<_}
 use mathlib.Core.Path.{_≡_}
 use mathlib.Core.Logic.{_≢_}

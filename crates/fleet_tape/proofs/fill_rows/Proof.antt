@@ -9,7 +9,8 @@ use lib.Seq.{sets}
 use Rattle.fleet_tape.specs.declared.Scanned.the-variants.{Count}
 use Rattle.window.specs.Rows.{startsOf, endsOf, marksOf}
 use Rattle.fleet_tape.specs.Form.{rowsIn}
-use Rattle.fleet_tape.specs.Scan.{counted, listed, Places}
+use Rattle.fleet_tape.specs.Scan.{counted, listed}
+use Rattle.fleet_tape.specs.Demand.{Places}
 use Rattle.fleet_tape.proofs.Rows.{Next, next-row, fill-more, fill-done, fill-all}
 use borrow.Author.Needs.{needs}
 use Rattle.fleet_tape.proofs.fill_rows.Statement.{statement}

@@ -7,10 +7,10 @@ use Rattle.fleet_tape_trial.proofs.read_changes_at.Statement.{statement
 use Rattle.fleet_tape_trial.proofs.read_changes_at.Tie as tie
 
 abbrev Inv-loop : tie.InvT-loop
-Inv-loop run tape₀ n at tally₀ byte₀ tape tally byte = (byte ≤ 256) × (length tape ≡ length tape₀)
+Inv-loop tape₀ n at tally₀ byte₀ tape tally byte = (byte ≤ 256) × (length tape ≡ length tape₀)
 
 abbrev μ-loop : tie.MeasureT-loop
-μ-loop run tape₀ n at tally₀ byte₀ tape tally byte = 256 - byte
+μ-loop tape₀ n at tally₀ byte₀ tape tally byte = 256 - byte
 
 none-requires : tie.Need-none-requires Inv-loop μ-loop
 none-requires c κs = search needs

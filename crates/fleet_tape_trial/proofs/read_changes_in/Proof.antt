@@ -7,10 +7,10 @@ use Rattle.fleet_tape_trial.proofs.read_changes_in.Statement.{statement
 use Rattle.fleet_tape_trial.proofs.read_changes_in.Tie as tie
 
 abbrev Inv-loop : tie.InvT-loop
-Inv-loop run tape₀ n tally₀ at₀ tape tally at = (at ≤ n) × (length tape ≡ length tape₀)
+Inv-loop tape₀ n tally₀ at₀ tape tally at = (at ≤ n) × (length tape ≡ length tape₀)
 
 abbrev μ-loop : tie.MeasureT-loop
-μ-loop run tape₀ n tally₀ at₀ tape tally at = n - at
+μ-loop tape₀ n tally₀ at₀ tape tally at = n - at
 
 none-requires : tie.Need-none-requires Inv-loop μ-loop
 none-requires c κs = search needs

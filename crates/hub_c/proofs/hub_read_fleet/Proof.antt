@@ -21,7 +21,7 @@ same-length-3 : tie.Need-same-length-3
 same-length-3 c = search needs
 
 returns : tie.Need-returns
-returns c = rw (c .hand-over-report .ensures) (ap handedRead (c .before .before .before .before .before .before .before .read-fleet .ensures))
+returns c = rw (c .hand-over-report .ensures) (ap handedRead (c .before .before .before .before .before .before .before .read-fleet .ensures .0))
 
 pub hub-read-fleet-spec : {M : Type 1} → statement M
 hub-read-fleet-spec =

@@ -15,7 +15,7 @@ same-length : tie.Need-same-length
 same-length c = search needs
 
 returns : tie.Need-returns
-returns c = rw (c .hand-over .ensures) (ap handedTape (c .before .before .before .write-plan .ensures))
+returns c = rw (c .hand-over .ensures) (ap handedTape (c .before .before .before .write-plan .ensures .0))
 
 pub write-plan-spec : {M : Type 1} → statement M
 write-plan-spec = tie.close (tie.spec write-plan-requires hand-over-requires same-length returns)

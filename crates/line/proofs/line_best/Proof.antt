@@ -6,9 +6,8 @@ use native.Mathlib.Omega.{arith}
 use lib.ListN.{length, drop, length-set, List·getD-eq-default}
 use lib.Seq.{drop-set-lt}
 use Rattle.line.specs.Cells.{cellBytes}
-use Rattle.line.specs.Stage.{startAt, Holds}
+use Rattle.line.proofs.Turns.{startAt, Holds, holds-first, holds-small, holds-step, holds-last, turn}
 use Rattle.basics.proofs.Lists.{getD-any}
-use Rattle.line.proofs.Turns.{holds-first, holds-small, holds-step, holds-last, turn}
 use Rattle.line.proofs.line_best.Statement.{statement}
 use Rattle.line.proofs.line_best.Tie as tie
 

@@ -3,8 +3,7 @@ use Prim.Native.Nat.{_-_, _≤_}
 use mathlib.Core.Path.{_≡_, refl}
 use native.Mathlib.Omega.{arith}
 use lib.ListN.{length, length-set}
-use Rattle.line.specs.Stage.{LowsMade}
-use Rattle.line.proofs.Turns.{lows-none, lows-more, lows-done}
+use Rattle.line.proofs.Turns.{LowsMade, lows-none, lows-more, lows-done}
 use Rattle.line.proofs.set_lows.Statement.{statement}
 use Rattle.line.proofs.set_lows.Tie as tie
 

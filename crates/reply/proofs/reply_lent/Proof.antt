@@ -32,7 +32,7 @@ same-length-4 c = search needs
 returns : tie.Need-returns
 returns c =
     let g = c .before .before .before .before .before .before .before .before .before .before .before .before .before .before .before .before .before .before .before .before .before .before .before in
-    reader-refused (g .args .tape .now) (g .pre) (c .before .before .before .before .before .before .before .before .before .before .before .before .read-fleet .ensures) (g .args .space .now) (λ z. c .before .before .before .before .if1 .taken (c .before .before .before .before .before .number .ensures ∙ z)) (c .before .before .put-refused .ensures)
+    reader-refused (g .args .tape .now) (g .pre) (c .before .before .before .before .before .before .before .before .before .before .before .before .read-fleet .ensures .0) (g .args .space .now) (λ z. c .before .before .before .before .if1 .taken (c .before .before .before .before .before .number .ensures ∙ z)) (c .before .before .put-refused .ensures)
 
 hours-in-requires : tie.Need-hours-in-requires
 hours-in-requires c κs = search needs
@@ -41,28 +41,28 @@ setting-of-requires : tie.Need-setting-of-requires
 setting-of-requires c κs = search needs
 
 slice-reshare-prefix-reply-table : tie.Need-slice-reshare-prefix-reply-table
-slice-reshare-prefix-reply-table c = rows-fit (c .before .before .before .before .before .before .before .before .before .before .before .before .before .before .before .before .before .before .before .before .before .args .tape .now) (c .before .before .before .before .before .before .before .before .before .before .before .before .before .before .before .before .before .before .before .before .before .pre) (c .before .before .before .before .before .before .before .before .before .before .read-fleet .ensures) (c .before .before .before .before .before .before .before .before .before .before .read-fleet .kept .1 .0) (c .before .before .before .before .before .before .before .before .before .before .before .before .before .before .before .before .before .before .before .before .before .pre .starts-are)
+slice-reshare-prefix-reply-table c = rows-fit (c .before .before .before .before .before .before .before .before .before .before .before .before .before .before .before .before .before .before .before .before .before .args .tape .now) (c .before .before .before .before .before .before .before .before .before .before .before .before .before .before .before .before .before .before .before .before .before .pre) (c .before .before .before .before .before .before .before .before .before .before .read-fleet .ensures .0) (c .before .before .before .before .before .before .before .before .before .before .read-fleet .kept .1 .0) (c .before .before .before .before .before .before .before .before .before .before .before .before .before .before .before .before .before .before .before .before .before .pre .starts-are)
 
 slice-aggregate-reply-table : tie.Need-slice-aggregate-reply-table
-slice-aggregate-reply-table c = sym (length-take-le _ _ (rows-fit (c .before .before .before .before .before .before .before .before .before .before .before .before .before .before .before .before .before .before .before .before .before .before .args .tape .now) (c .before .before .before .before .before .before .before .before .before .before .before .before .before .before .before .before .before .before .before .before .before .before .pre) (c .before .before .before .before .before .before .before .before .before .before .before .read-fleet .ensures) (c .before .before .before .before .before .before .before .before .before .before .before .read-fleet .kept .1 .0) (c .before .before .before .before .before .before .before .before .before .before .before .before .before .before .before .before .before .before .before .before .before .before .pre .starts-are)))
+slice-aggregate-reply-table c = sym (length-take-le _ _ (rows-fit (c .before .before .before .before .before .before .before .before .before .before .before .before .before .before .before .before .before .before .before .before .before .before .args .tape .now) (c .before .before .before .before .before .before .before .before .before .before .before .before .before .before .before .before .before .before .before .before .before .before .pre) (c .before .before .before .before .before .before .before .before .before .before .before .read-fleet .ensures .0) (c .before .before .before .before .before .before .before .before .before .before .before .read-fleet .kept .1 .0) (c .before .before .before .before .before .before .before .before .before .before .before .before .before .before .before .before .before .before .before .before .before .before .pre .starts-are)))
 
 slice-reshare-prefix-reply-table-2 : tie.Need-slice-reshare-prefix-reply-table-2
-slice-reshare-prefix-reply-table-2 c = rows-fit (c .before .before .before .before .before .before .before .before .before .before .before .before .before .before .before .before .before .before .before .before .before .before .args .tape .now) (c .before .before .before .before .before .before .before .before .before .before .before .before .before .before .before .before .before .before .before .before .before .before .pre) (c .before .before .before .before .before .before .before .before .before .before .before .read-fleet .ensures) (c .before .before .before .before .before .before .before .before .before .before .before .read-fleet .kept .1 .1 .0) (c .before .before .before .before .before .before .before .before .before .before .before .before .before .before .before .before .before .before .before .before .before .before .pre .ends-are)
+slice-reshare-prefix-reply-table-2 c = rows-fit (c .before .before .before .before .before .before .before .before .before .before .before .before .before .before .before .before .before .before .before .before .before .before .args .tape .now) (c .before .before .before .before .before .before .before .before .before .before .before .before .before .before .before .before .before .before .before .before .before .before .pre) (c .before .before .before .before .before .before .before .before .before .before .before .read-fleet .ensures .0) (c .before .before .before .before .before .before .before .before .before .before .before .read-fleet .kept .1 .1 .0) (c .before .before .before .before .before .before .before .before .before .before .before .before .before .before .before .before .before .before .before .before .before .before .pre .ends-are)
 
 slice-aggregate-reply-table-2 : tie.Need-slice-aggregate-reply-table-2
-slice-aggregate-reply-table-2 c = sym (length-take-le _ _ (rows-fit (c .before .before .before .before .before .before .before .before .before .before .before .before .before .before .before .before .before .before .before .before .before .before .before .args .tape .now) (c .before .before .before .before .before .before .before .before .before .before .before .before .before .before .before .before .before .before .before .before .before .before .before .pre) (c .before .before .before .before .before .before .before .before .before .before .before .before .read-fleet .ensures) (c .before .before .before .before .before .before .before .before .before .before .before .before .read-fleet .kept .1 .1 .0) (c .before .before .before .before .before .before .before .before .before .before .before .before .before .before .before .before .before .before .before .before .before .before .before .pre .ends-are)))
+slice-aggregate-reply-table-2 c = sym (length-take-le _ _ (rows-fit (c .before .before .before .before .before .before .before .before .before .before .before .before .before .before .before .before .before .before .before .before .before .before .before .args .tape .now) (c .before .before .before .before .before .before .before .before .before .before .before .before .before .before .before .before .before .before .before .before .before .before .before .pre) (c .before .before .before .before .before .before .before .before .before .before .before .before .read-fleet .ensures .0) (c .before .before .before .before .before .before .before .before .before .before .before .before .read-fleet .kept .1 .1 .0) (c .before .before .before .before .before .before .before .before .before .before .before .before .before .before .before .before .before .before .before .before .before .before .before .pre .ends-are)))
 
 slice-reshare-prefix-reply-table-3 : tie.Need-slice-reshare-prefix-reply-table-3
-slice-reshare-prefix-reply-table-3 c = rows-fit (c .before .before .before .before .before .before .before .before .before .before .before .before .before .before .before .before .before .before .before .before .before .before .before .args .tape .now) (c .before .before .before .before .before .before .before .before .before .before .before .before .before .before .before .before .before .before .before .before .before .before .before .pre) (c .before .before .before .before .before .before .before .before .before .before .before .before .read-fleet .ensures) (c .before .before .before .before .before .before .before .before .before .before .before .before .read-fleet .kept .1 .1 .1 .0) (c .before .before .before .before .before .before .before .before .before .before .before .before .before .before .before .before .before .before .before .before .before .before .before .pre .marks-are)
+slice-reshare-prefix-reply-table-3 c = rows-fit (c .before .before .before .before .before .before .before .before .before .before .before .before .before .before .before .before .before .before .before .before .before .before .before .args .tape .now) (c .before .before .before .before .before .before .before .before .before .before .before .before .before .before .before .before .before .before .before .before .before .before .before .pre) (c .before .before .before .before .before .before .before .before .before .before .before .before .read-fleet .ensures .0) (c .before .before .before .before .before .before .before .before .before .before .before .before .read-fleet .kept .1 .1 .1 .0) (c .before .before .before .before .before .before .before .before .before .before .before .before .before .before .before .before .before .before .before .before .before .before .before .pre .marks-are)
 
 slice-aggregate-reply-table-3 : tie.Need-slice-aggregate-reply-table-3
-slice-aggregate-reply-table-3 c = sym (length-take-le _ _ (rows-fit (c .before .before .before .before .before .before .before .before .before .before .before .before .before .before .before .before .before .before .before .before .before .before .before .before .args .tape .now) (c .before .before .before .before .before .before .before .before .before .before .before .before .before .before .before .before .before .before .before .before .before .before .before .before .pre) (c .before .before .before .before .before .before .before .before .before .before .before .before .before .read-fleet .ensures) (c .before .before .before .before .before .before .before .before .before .before .before .before .before .read-fleet .kept .1 .1 .1 .0) (c .before .before .before .before .before .before .before .before .before .before .before .before .before .before .before .before .before .before .before .before .before .before .before .before .pre .marks-are)))
+slice-aggregate-reply-table-3 c = sym (length-take-le _ _ (rows-fit (c .before .before .before .before .before .before .before .before .before .before .before .before .before .before .before .before .before .before .before .before .before .before .before .before .args .tape .now) (c .before .before .before .before .before .before .before .before .before .before .before .before .before .before .before .before .before .before .before .before .before .before .before .before .pre) (c .before .before .before .before .before .before .before .before .before .before .before .before .before .read-fleet .ensures .0) (c .before .before .before .before .before .before .before .before .before .before .before .before .before .read-fleet .kept .1 .1 .1 .0) (c .before .before .before .before .before .before .before .before .before .before .before .before .before .before .before .before .before .before .before .before .before .before .before .before .pre .marks-are)))
 
 slice-relend-prefix-reply-table : tie.Need-slice-relend-prefix-reply-table
-slice-relend-prefix-reply-table c = rows-fit (c .before .before .before .before .before .before .before .before .before .before .before .before .before .before .before .before .before .before .before .before .before .before .before .before .args .tape .now) (c .before .before .before .before .before .before .before .before .before .before .before .before .before .before .before .before .before .before .before .before .before .before .before .before .pre) (c .before .before .before .before .before .before .before .before .before .before .before .before .before .read-fleet .ensures) refl (c .before .before .before .before .before .before .before .before .before .before .before .before .before .before .before .before .before .before .before .before .before .before .before .before .pre .labels-are)
+slice-relend-prefix-reply-table c = rows-fit (c .before .before .before .before .before .before .before .before .before .before .before .before .before .before .before .before .before .before .before .before .before .before .before .before .args .tape .now) (c .before .before .before .before .before .before .before .before .before .before .before .before .before .before .before .before .before .before .before .before .before .before .before .before .pre) (c .before .before .before .before .before .before .before .before .before .before .before .before .before .read-fleet .ensures .0) refl (c .before .before .before .before .before .before .before .before .before .before .before .before .before .before .before .before .before .before .before .before .before .before .before .before .pre .labels-are)
 
 slice-aggregate-reply-table-4 : tie.Need-slice-aggregate-reply-table-4
-slice-aggregate-reply-table-4 c = sym (length-take-le _ _ (rows-fit (c .before .before .before .before .before .before .before .before .before .before .before .before .before .before .before .before .before .before .before .before .before .before .before .before .before .args .tape .now) (c .before .before .before .before .before .before .before .before .before .before .before .before .before .before .before .before .before .before .before .before .before .before .before .before .before .pre) (c .before .before .before .before .before .before .before .before .before .before .before .before .before .before .read-fleet .ensures) refl (c .before .before .before .before .before .before .before .before .before .before .before .before .before .before .before .before .before .before .before .before .before .before .before .before .before .pre .labels-are)))
+slice-aggregate-reply-table-4 c = sym (length-take-le _ _ (rows-fit (c .before .before .before .before .before .before .before .before .before .before .before .before .before .before .before .before .before .before .before .before .before .before .before .before .before .args .tape .now) (c .before .before .before .before .before .before .before .before .before .before .before .before .before .before .before .before .before .before .before .before .before .before .before .before .before .pre) (c .before .before .before .before .before .before .before .before .before .before .before .before .before .before .read-fleet .ensures .0) refl (c .before .before .before .before .before .before .before .before .before .before .before .before .before .before .before .before .before .before .before .before .before .before .before .before .before .pre .labels-are)))
 
 reply-table-requires : tie.Need-reply-table-requires
 reply-table-requires c κs = record { fits = omega (arith, c .before .before .before .before .before .before .before .before .before .before .before .before .before .before .before .before .before .before .before .before .before .before .before .before .before .before .before .pre .fits) }
@@ -89,7 +89,7 @@ returns-2 : tie.Need-returns-2
 returns-2 c =
     let g = c .before .before .before .before .before .before .before .before .before .before .before .before .before .before .before .before .before .before .before .before .before .before .before .before .before .before .before .before .before .before .before .before .before .before in
     c .before .before .before .before .before .before .reply-table .ensures
-    ∙ reader-accepted (g .args .tape .now) (g .pre) (c .before .before .before .before .before .before .before .before .before .before .before .before .before .before .before .before .before .before .before .before .before .before .before .read-fleet .ensures) (g .args .space .now) (sym (c .before .before .before .before .before .before .before .before .before .before .before .before .before .before .before .before .number .ensures) ∙ c .before .before .before .before .before .before .before .before .before .before .before .before .before .before .before .if1 .left) (c .before .before .before .before .before .before .before .before .before .before .before .before .before .setting-of .ensures ∙ ap (settingOf _ _) (c .before .before .before .before .before .before .before .before .before .before .before .before .before .before .hours-in .ensures))
+    ∙ reader-accepted (g .args .tape .now) (g .pre) (c .before .before .before .before .before .before .before .before .before .before .before .before .before .before .before .before .before .before .before .before .before .before .before .read-fleet .ensures .0) (g .args .space .now) (sym (c .before .before .before .before .before .before .before .before .before .before .before .before .before .before .before .before .number .ensures) ∙ c .before .before .before .before .before .before .before .before .before .before .before .before .before .before .before .if1 .left) (c .before .before .before .before .before .before .before .before .before .before .before .before .before .setting-of .ensures ∙ ap (settingOf _ _) (c .before .before .before .before .before .before .before .before .before .before .before .before .before .before .hours-in .ensures))
 
 pub reply-lent-spec : {M : Type 1} → statement M
 reply-lent-spec =

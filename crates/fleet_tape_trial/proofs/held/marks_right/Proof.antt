@@ -5,10 +5,10 @@ use Rattle.fleet_tape_trial.proofs.held.marks_right.Statement.{statemen
 use Rattle.fleet_tape_trial.proofs.held.marks_right.Tie as tie
 
 abbrev Inv-loop : tie.InvT-loop
-Inv-loop list rows i₀ i = Unit {0}
+Inv-loop list given rows i₀ i = Unit {0}
 
 abbrev μ-loop : tie.MeasureT-loop
-μ-loop list rows i₀ i = 65 - i
+μ-loop list given rows i₀ i = 65 - i
 
 loop-holds : tie.Need-loop-holds Inv-loop μ-loop
 loop-holds c = search needs
@@ -16,8 +16,11 @@ loop-holds c = search needs
 element-copy-out-if1 : tie.Need-element-copy-out-if1 Inv-loop μ-loop
 element-copy-out-if1 c = search needs
 
-pattern-mark-requires : tie.Need-pattern-mark-requires Inv-loop μ-loop
-pattern-mark-requires c κs = search needs
+element-copy-out-mark-after : tie.Need-element-copy-out-mark-after Inv-loop μ-loop
+element-copy-out-mark-after c = search needs
+
+mark-after-requires : tie.Need-mark-after-requires Inv-loop μ-loop
+mark-after-requires c κs = search needs
 
 returns : tie.Need-returns Inv-loop μ-loop
 returns c = search needs
@@ -42,7 +45,8 @@ marks-right-spec =
     μ-loop
     loop-holds
     element-copy-out-if1
-    pattern-mark-requires
+    element-copy-out-mark-after
+    mark-after-requires
     returns
     add-i
     loop-less

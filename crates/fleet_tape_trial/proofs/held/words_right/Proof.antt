@@ -5,10 +5,10 @@ use Rattle.fleet_tape_trial.proofs.held.words_right.Statement.{statemen
 use Rattle.fleet_tape_trial.proofs.held.words_right.Tie as tie
 
 abbrev Inv-loop : tie.InvT-loop
-Inv-loop list rows i₀ i = Unit {0}
+Inv-loop list given rows i₀ i = Unit {0}
 
 abbrev μ-loop : tie.MeasureT-loop
-μ-loop list rows i₀ i = 65 - i
+μ-loop list given rows i₀ i = 65 - i
 
 loop-holds : tie.Need-loop-holds Inv-loop μ-loop
 loop-holds c = search needs
@@ -19,8 +19,14 @@ mul-if1 c = search needs
 element-copy-out-if1 : tie.Need-element-copy-out-if1 Inv-loop μ-loop
 element-copy-out-if1 c = search needs
 
-pattern-word-requires : tie.Need-pattern-word-requires Inv-loop μ-loop
-pattern-word-requires c κs = search needs
+mul-word-after : tie.Need-mul-word-after Inv-loop μ-loop
+mul-word-after c = search needs
+
+element-copy-out-word-after : tie.Need-element-copy-out-word-after Inv-loop μ-loop
+element-copy-out-word-after c = search needs
+
+word-after-requires : tie.Need-word-after-requires Inv-loop μ-loop
+word-after-requires c κs = search needs
 
 returns : tie.Need-returns Inv-loop μ-loop
 returns c = search needs
@@ -46,7 +52,9 @@ words-right-spec =
     loop-holds
     mul-if1
     element-copy-out-if1
-    pattern-word-requires
+    mul-word-after
+    element-copy-out-word-after
+    word-after-requires
     returns
     add-i
     loop-less

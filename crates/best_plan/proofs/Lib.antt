@@ -1,0 +1,3 @@
+-- Laws of the best plan of a checked table.
+pub mod Rows
+pub mod Given

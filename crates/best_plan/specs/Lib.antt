@@ -1,0 +1,2 @@
+-- What the contracts of the crate `best_plan` cite.
+pub mod Rows

@@ -1,0 +1,59 @@
+-- Inner: The rows of a checked table as arcs of a circle and permissions: a row's window is the arc of its ticks, and its permission has the labels that a plan allows it.
+use Prim.Native.Nat.{ℕ, suc, _≤_, _<_}
+use mathlib.Core.Path.{_≡_}
+use mathlib.Core.List.{List}
+use mathlib.Core.Option.{Option, none, some}
+use lib.ListN.{length}
+use Rattle.line.specs.Cells.{coreBytes}
+use Rattle.basics.specs.Lists.{at}
+use Rattle.labels.specs.Labels.{heard}
+use Rattle.labels.specs.Permission.{permission}
+use Rattle.window.specs.declared.Row.{Row}
+use Rattle.window.specs.Windows.{ticksIn}
+use Rattle.table.specs.declared.Setting.{Setting}
+use Rattle.table.specs.Tables.{Table, rows, rowAt, isAllowed, Valid}
+use Rattle.best_plan.specs.declared.Arc.{Arc}
+
+-- the ticks of the circle: a run is a circle that no window crosses
+abbrev pub circleOf : Setting → ℕ
+circleOf S = S .ticks
+
+-- the ticks that the row's window covers
+unfoldable pub arcOf : Setting → Row → Arc
+unfolding ticksIn
+arcOf S row = record { start = row .start; length = ticksIn (S .kind) (S .ticks) (row .start) (row .end) }
+
+-- the labels that the row may have
+unfoldable pub permissionOf : Setting → Row → ℕ
+unfolding permission isAllowed
+permissionOf S row = permission (isAllowed S row 0) (isAllowed S row 1) (isAllowed S row 2)
+
+-- lists as long as the table has rows, for their arcs and permissions
+pub record ArcLists (t : Table) (starts lengths perms : List ℕ) : Type 0 where
+  pub each-start : length starts ≡ rows t
+  pub each-length : length lengths ≡ rows t
+  pub each-perm : length perms ≡ rows t
+
+-- they hold the arcs and permissions of the table's rows
+pub record ArcsOf (t : Table) (starts lengths perms : List ℕ) : Type 0 where
+  pub lists : ArcLists t starts lengths perms
+  pub start : (i : ℕ) → i < rows t → at starts i ≡ arcOf (t .setting) (rowAt t i) .start
+  pub ticks : (i : ℕ) → i < rows t → at lengths i ≡ arcOf (t .setting) (rowAt t i) .length
+  pub perm : (i : ℕ) → i < rows t → at perms i ≡ permissionOf (t .setting) (rowAt t i)
+
+-- what planning a table that passed its checks is lent
+pub record Checked (t : Table) (labels space : List ℕ) : Type 0 where
+  pub valid : Valid t
+  pub each-label : length labels ≡ rows t
+  pub room : coreBytes ≤ length space
+
+-- what counting for such a table is lent
+pub record Countable (t : Table) (space : List ℕ) : Type 0 where
+  pub valid : Valid t
+  pub room : coreBytes ≤ length space
+
+-- how many rows a plan hears, and one more; 0 without a plan
+unfoldable pub countOf : Option (List ℕ) → ℕ
+unfolding heard
+countOf none = 0
+countOf (some plan) = suc (heard plan)

@@ -1,2 +1,0 @@
--- What the contracts of the crate `planner` cite.
-pub mod Rows

@@ -1,0 +1,690 @@
+/* Tests include/hubplan.h by itself: every function is called as the header declares it, on paper 01's session, on runs with unequal hours, at each limit and for each
+ * refusal, and every constant, field and parameter is compared with paper 01's. The numbers here are the paper's, since the header's constants are what is tested.
+ *
+ *   gcc -std=c99 -Wall -Wextra -Wpedantic -Werror -Iinclude tests/header.c target/staticlib/libhub_c.a -o target/header && target/header
+ */
+#include <stdio.h>
+#include <string.h>
+
+/* C ignores the names of parameters, so an exchange of hours is seen only in the text: each declaration is also kept as a string. */
+#define hub_plan_round(...) hub_plan_round(__VA_ARGS__); static const char plan_round_takes[] = #__VA_ARGS__
+#define hub_plan_run(...) hub_plan_run(__VA_ARGS__); static const char plan_run_takes[] = #__VA_ARGS__
+#define hub_write_plan_round(...) hub_write_plan_round(__VA_ARGS__); static const char write_round_takes[] = #__VA_ARGS__
+#define hub_write_plan_run(...) hub_write_plan_run(__VA_ARGS__); static const char write_run_takes[] = #__VA_ARGS__
+#define hub_read_fleet(...) hub_read_fleet(__VA_ARGS__); static const char read_fleet_takes[] = #__VA_ARGS__
+#define hub_reply(...) hub_reply(__VA_ARGS__); static const char reply_takes[] = #__VA_ARGS__
+#include "hubplan.h"
+#undef hub_plan_round
+#undef hub_plan_run
+#undef hub_write_plan_round
+#undef hub_write_plan_run
+#undef hub_read_fleet
+#undef hub_reply
+
+#define ROWS 64
+#define SPACE 16384
+#define TAPE 392
+#define REPLY 400
+#define BEYOND 16   /* room after each output, which no call may touch */
+#define BEFORE 0xA5 /* what every output holds before a call */
+
+/* A table as it is lent, with each length apart, so that one alone can be wrong. The hours count in a run only. */
+struct lent {
+    bool run;
+    uint16_t ticks, p1, q1, p2, q2;
+    uint16_t starts[ROWS + 1], ends[ROWS + 1];
+    uint8_t marks[ROWS + 1], labels[ROWS + 1 + BEYOND];
+    size_t starts_length, ends_length, marks_length, labels_length, space_length, tape_length;
+};
+
+/* The lists that the reader fills. */
+struct places {
+    uint16_t starts[ROWS + 1], ends[ROWS + 1];
+    uint8_t marks[ROWS + 1];
+    size_t starts_length, ends_length, marks_length;
+};
+
+struct fleet {
+    uint8_t bytes[500];
+    size_t length;
+};
+
+static uint8_t space[SPACE + BEYOND];
+static uint8_t tape[TAPE + BEYOND];
+static uint8_t out[REPLY + BEYOND];
+
+/* The header's refusals at paper 01's numbers. */
+static const unsigned refusals[12] = {HUB_ACCEPTED, HUB_LISTS, HUB_ROWS,    HUB_SPACE,    HUB_TICKS,  HUB_HOURS,
+                                      HUB_WINDOW,   HUB_MARK,  HUB_NO_PLAN, HUB_NOT_PLAN, HUB_BUFFER, HUB_FORM};
+
+/* ---- counting ---- */
+
+static unsigned checks, failures, all_failures;
+
+static void check(const char *what, const char *of, bool good)
+{
+    checks++;
+    if (good)
+        return;
+    failures++;
+    printf("header: FAILED: %s: %s\n", what, of);
+}
+
+static void end_group(const char *name)
+{
+    printf("header: %s: %u checks, %u failed\n", name, checks, failures);
+    all_failures += failures;
+    checks = failures = 0;
+}
+
+static bool all_are(const void *bytes, size_t length, uint8_t value)
+{
+    const uint8_t *b = bytes;
+    for (size_t i = 0; i < length; i++)
+        if (b[i] != value)
+            return false;
+    return true;
+}
+
+static void check_refusal(const char *what, unsigned got, unsigned number)
+{
+    check(what, "the refusal by paper 01's number", got == number);
+    check(what, "the refusal by the header's constant", got == refusals[number]);
+}
+
+/* The first 16,384 bytes are cleared or as they were, those beyond are as they were. */
+static void check_space(const char *what, bool cleared)
+{
+    check(what, "the working space", all_are(space, SPACE, cleared ? 0 : BEFORE));
+    check(what, "the bytes beyond the working space", all_are(space + SPACE, BEYOND, BEFORE));
+}
+
+/* ---- tables ---- */
+
+static void set_rows(struct lent *t, size_t rows)
+{
+    t->starts_length = t->ends_length = t->marks_length = t->labels_length = rows;
+}
+
+/* A table of 100 ticks with P9's hours, and no mark. */
+static struct lent lend(bool run, size_t rows, uint16_t windows[][2])
+{
+    struct lent t;
+    memset(&t, 0, sizeof t);
+    t.run = run;
+    t.ticks = 100;
+    t.p1 = 0, t.q1 = 50, t.p2 = 40, t.q2 = 100;
+    for (size_t i = 0; i < rows; i++) {
+        t.starts[i] = windows[i][0];
+        t.ends[i] = windows[i][1];
+    }
+    set_rows(&t, rows);
+    t.space_length = SPACE;
+    t.tape_length = TAPE;
+    return t;
+}
+
+static struct lent session(void)
+{
+    uint16_t windows[4][2] = {{10, 30}, {20, 40}, {25, 50}, {90, 10}};
+    return lend(false, 4, windows);
+}
+
+static struct lent p9(void)
+{
+    uint16_t windows[3][2] = {{45, 60}, {50, 60}, {0, 50}};
+    return lend(true, 3, windows);
+}
+
+/* Row i is i to i + 1, so that all are heard; in a run those from 50 on by receiver 2, as receiver 1 closes. */
+static struct lent many(bool run, size_t rows)
+{
+    uint16_t windows[ROWS + 1][2];
+    for (size_t i = 0; i < rows; i++) {
+        windows[i][0] = (uint16_t)i;
+        windows[i][1] = (uint16_t)(i + 1);
+    }
+    return lend(run, rows, windows);
+}
+
+/* The labels of `many`, as text. */
+static const char *labels_of_many(bool run, char text[ROWS + 1])
+{
+    for (size_t i = 0; i < ROWS; i++)
+        text[i] = run && i >= 50 ? '2' : '1';
+    text[ROWS] = 0;
+    return text;
+}
+
+static void set_labels(struct lent *t, const char *text)
+{
+    for (size_t i = 0; text[i]; i++)
+        t->labels[i] = (uint8_t)(text[i] - '0');
+}
+
+/* ---- the planner ---- */
+
+static struct hub_answer plan(struct lent *t)
+{
+    memset(space, BEFORE, sizeof space);
+    memset(t->labels, BEFORE, sizeof t->labels);
+    if (t->run)
+        return hub_plan_run(t->ticks, t->p1, t->q1, t->p2, t->q2, t->starts, t->starts_length, t->ends, t->ends_length, t->marks, t->marks_length,
+                            t->labels, t->labels_length, space, t->space_length);
+    return hub_plan_round(t->ticks, t->starts, t->starts_length, t->ends, t->ends_length, t->marks, t->marks_length, t->labels, t->labels_length, space,
+                          t->space_length);
+}
+
+static void planned(const char *what, struct lent *t, const char *labels)
+{
+    size_t rows = strlen(labels), heard = 0;
+    bool same = true;
+    struct hub_answer answer = plan(t);
+    for (size_t i = 0; i < rows; i++) {
+        heard += labels[i] != '0';
+        same = same && t->labels[i] == labels[i] - '0';
+    }
+    check_refusal(what, answer.refusal, 0);
+    check(what, "the count", answer.count == heard);
+    check(what, "the labels", same);
+    check(what, "the bytes beyond the labels", all_are(t->labels + rows, sizeof t->labels - rows, BEFORE));
+    check_space(what, true);
+}
+
+static void plan_refused(const char *what, struct lent *t, unsigned number)
+{
+    struct hub_answer answer = plan(t);
+    check_refusal(what, answer.refusal, number);
+    check(what, "the count is 0", answer.count == 0);
+    check(what, "the labels are untouched", all_are(t->labels, sizeof t->labels, BEFORE));
+    check_space(what, number == 8);
+}
+
+/* ---- the writer ---- */
+
+static struct hub_answer write_plan(const struct lent *t)
+{
+    memset(tape, BEFORE, sizeof tape);
+    if (t->run)
+        return hub_write_plan_run(t->ticks, t->p1, t->q1, t->p2, t->q2, t->starts, t->starts_length, t->ends, t->ends_length, t->marks, t->marks_length,
+                                  t->labels, t->labels_length, tape, t->tape_length);
+    return hub_write_plan_round(t->ticks, t->starts, t->starts_length, t->ends, t->ends_length, t->marks, t->marks_length, t->labels, t->labels_length,
+                                tape, t->tape_length);
+}
+
+static void written(const char *what, const struct lent *t, const uint8_t *bytes, size_t length)
+{
+    struct hub_answer answer = write_plan(t);
+    check_refusal(what, answer.refusal, 0);
+    check(what, "the count is the tape's length", answer.count == length);
+    check(what, "the plan tape", memcmp(tape, bytes, length) == 0);
+    check(what, "the bytes after the plan tape", all_are(tape + length, sizeof tape - length, BEFORE));
+}
+
+static void write_refused(const char *what, const struct lent *t, unsigned number)
+{
+    struct hub_answer answer = write_plan(t);
+    check_refusal(what, answer.refusal, number);
+    check(what, "the count is 0", answer.count == 0);
+    check(what, "the buffer is untouched", all_are(tape, sizeof tape, BEFORE));
+}
+
+/* The plan tape of `many`: its rows are by rising start already. */
+static size_t tape_of_many(bool run, uint8_t bytes[TAPE])
+{
+    size_t at = 0, first = run ? 50 : ROWS;
+    bytes[at++] = run ? 0x11 : 0x10, bytes[at++] = 0, bytes[at++] = 100;
+    bytes[at++] = 0x20, bytes[at++] = 1;
+    for (size_t i = 0; i <= ROWS; i++) {
+        if (i == first)
+            bytes[at++] = 0x20, bytes[at++] = 2;
+        if (i == ROWS)
+            break;
+        bytes[at++] = 0x30, bytes[at++] = (uint8_t)i;
+        bytes[at++] = 0, bytes[at++] = (uint8_t)i;
+        bytes[at++] = 0, bytes[at++] = (uint8_t)(i + 1);
+    }
+    bytes[at++] = 0x7F;
+    return at;
+}
+
+/* ---- the reader ---- */
+
+static void put_word(struct fleet *f, unsigned word)
+{
+    f->bytes[f->length++] = (uint8_t)(word >> 8);
+    f->bytes[f->length++] = (uint8_t)(word & 255);
+}
+
+static void put_row(struct fleet *f, bool must, unsigned start, unsigned end)
+{
+    f->bytes[f->length++] = must ? 0x41 : 0x40;
+    put_word(f, start);
+    put_word(f, end);
+}
+
+/* The fleet tape of a table. */
+static struct fleet fleet_of(const struct lent *t)
+{
+    struct fleet f;
+    f.length = 0;
+    f.bytes[f.length++] = t->run ? 0x11 : 0x10;
+    put_word(&f, t->ticks);
+    if (t->run) {
+        f.bytes[f.length++] = 0x50;
+        put_word(&f, t->p1);
+        put_word(&f, t->q1);
+        put_word(&f, t->p2);
+        put_word(&f, t->q2);
+    }
+    for (size_t i = 0; i < t->starts_length; i++)
+        put_row(&f, t->marks[i] == 1, t->starts[i], t->ends[i]);
+    f.bytes[f.length++] = 0x7F;
+    return f;
+}
+
+/* A round of so many rows, more than any table has. */
+static struct fleet long_fleet(size_t rows)
+{
+    struct fleet f = {{0x10, 0, 100}, 3};
+    for (size_t i = 0; i < rows; i++)
+        put_row(&f, false, 0, 1);
+    f.bytes[f.length++] = 0x7F;
+    return f;
+}
+
+static struct places fresh_places(void)
+{
+    struct places p;
+    memset(&p, BEFORE, sizeof p);
+    p.starts_length = p.ends_length = p.marks_length = ROWS;
+    return p;
+}
+
+static struct hub_report read_fleet(const struct fleet *f, struct places *p)
+{
+    return hub_read_fleet(f->bytes, f->length, p->starts, p->starts_length, p->ends, p->ends_length, p->marks, p->marks_length);
+}
+
+static void check_places(const char *what, const struct places *p, const struct lent *t)
+{
+    size_t rows = t->starts_length;
+    check(what, "starts", memcmp(p->starts, t->starts, rows * sizeof t->starts[0]) == 0);
+    check(what, "ends", memcmp(p->ends, t->ends, rows * sizeof t->ends[0]) == 0);
+    check(what, "marks", memcmp(p->marks, t->marks, rows) == 0);
+    check(what, "starts after the rows", all_are(p->starts + rows, sizeof p->starts - rows * sizeof p->starts[0], BEFORE));
+    check(what, "ends after the rows", all_are(p->ends + rows, sizeof p->ends - rows * sizeof p->ends[0], BEFORE));
+    check(what, "marks after the rows", all_are(p->marks + rows, sizeof p->marks - rows, BEFORE));
+}
+
+static void check_report(const char *what, const struct hub_report *r, const struct lent *t)
+{
+    check(what, "run", r->run == t->run);
+    check(what, "ticks", r->ticks == t->ticks);
+    check(what, "p1", r->p1 == (t->run ? t->p1 : 0));
+    check(what, "q1", r->q1 == (t->run ? t->q1 : 0));
+    check(what, "p2", r->p2 == (t->run ? t->p2 : 0));
+    check(what, "q2", r->q2 == (t->run ? t->q2 : 0));
+    check(what, "rows", r->rows == t->starts_length);
+}
+
+/* The reader gives back the table whose tape it reads. */
+static void read_back(const char *what, const struct lent *t)
+{
+    struct fleet f = fleet_of(t);
+    struct places p = fresh_places();
+    struct hub_report r = read_fleet(&f, &p);
+    check_refusal(what, r.refusal, 0);
+    check_report(what, &r, t);
+    check_places(what, &p, t);
+}
+
+static void read_refused(const char *what, const struct fleet *f, struct places p, unsigned number)
+{
+    struct lent nothing;
+    memset(&nothing, 0, sizeof nothing);
+    struct hub_report r = read_fleet(f, &p);
+    check_refusal(what, r.refusal, number);
+    check_report(what, &r, &nothing);
+    check_places(what, &p, &nothing);
+}
+
+/* ---- the reply ---- */
+
+static void replied(const char *what, const struct fleet *f, const char *text, bool cleared)
+{
+    memset(space, BEFORE, sizeof space);
+    memset(out, BEFORE, sizeof out);
+    size_t length = hub_reply(f->bytes, f->length, out, REPLY, space, SPACE);
+    check(what, "the reply's length", length == strlen(text));
+    check(what, "the reply", memcmp(out, text, strlen(text)) == 0);
+    check(what, "the bytes after the reply", all_are(out + strlen(text), sizeof out - strlen(text), BEFORE));
+    check_space(what, cleared);
+}
+
+static void replied_to(const char *what, const struct lent *t, const char *text, bool cleared)
+{
+    struct fleet f = fleet_of(t);
+    replied(what, &f, text, cleared);
+}
+
+/* ---- the groups ---- */
+
+static void constants(void)
+{
+    for (unsigned i = 0; i < 12; i++)
+        check("a refusal", "its constant is paper 01's number", refusals[i] == i);
+    check("constants", "HUB_MOST_ROWS", HUB_MOST_ROWS == ROWS);
+    check("constants", "HUB_SPACE_BYTES", HUB_SPACE_BYTES == SPACE);
+    check("constants", "HUB_PLAN_TAPE_BYTES", HUB_PLAN_TAPE_BYTES == TAPE);
+    check("constants", "HUB_FLEET_TAPE_BYTES", HUB_FLEET_TAPE_BYTES == 400);
+    check("constants", "HUB_REPLY_BYTES", HUB_REPLY_BYTES == REPLY);
+    end_group("constants");
+}
+
+/* Where the library puts each field; a field that is too narrow would still give small values. */
+static void structs(void)
+{
+    struct hub_answer a;
+    struct hub_report r;
+    check("hub_answer", "sizes", sizeof a == 16 && sizeof a.refusal == 1 && sizeof a.count == 8);
+    check("hub_answer", "refusal", offsetof(struct hub_answer, refusal) == 0);
+    check("hub_answer", "count", offsetof(struct hub_answer, count) == 8);
+    check("hub_report", "sizes", sizeof r == 24 && sizeof r.refusal == 1 && sizeof r.run == 1 && sizeof r.ticks == 2 && sizeof r.rows == 8);
+    check("hub_report", "sizes of the hours", sizeof r.p1 == 2 && sizeof r.q1 == 2 && sizeof r.p2 == 2 && sizeof r.q2 == 2);
+    check("hub_report", "refusal", offsetof(struct hub_report, refusal) == 0);
+    check("hub_report", "run", offsetof(struct hub_report, run) == 1);
+    check("hub_report", "ticks", offsetof(struct hub_report, ticks) == 2);
+    check("hub_report", "p1", offsetof(struct hub_report, p1) == 4);
+    check("hub_report", "q1", offsetof(struct hub_report, q1) == 6);
+    check("hub_report", "p2", offsetof(struct hub_report, p2) == 8);
+    check("hub_report", "q2", offsetof(struct hub_report, q2) == 10);
+    check("hub_report", "rows", offsetof(struct hub_report, rows) == 16);
+    end_group("structs");
+}
+
+#define TICKS "uint16_t ticks"
+#define HOURS ", uint16_t p1, uint16_t q1, uint16_t p2, uint16_t q2"
+#define TABLE ", const uint16_t *starts, size_t starts_length, const uint16_t *ends, size_t ends_length, const uint8_t *marks, size_t marks_length"
+#define PLANS ", uint8_t *labels, size_t labels_length, uint8_t *space, size_t space_length"
+#define WRITES ", const uint8_t *labels, size_t labels_length, uint8_t *tape, size_t tape_length"
+
+static void parameters(void)
+{
+    check("hub_plan_round", "parameters", strcmp(plan_round_takes, TICKS TABLE PLANS) == 0);
+    check("hub_plan_run", "parameters", strcmp(plan_run_takes, TICKS HOURS TABLE PLANS) == 0);
+    check("hub_write_plan_round", "parameters", strcmp(write_round_takes, TICKS TABLE WRITES) == 0);
+    check("hub_write_plan_run", "parameters", strcmp(write_run_takes, TICKS HOURS TABLE WRITES) == 0);
+    check("hub_read_fleet", "parameters", strcmp(read_fleet_takes, "const uint8_t *tape, size_t tape_length, uint16_t *starts, size_t starts_length, "
+                                                                   "uint16_t *ends, size_t ends_length, uint8_t *marks, size_t marks_length") == 0);
+    check("hub_reply", "parameters", strcmp(reply_takes, "const uint8_t *tape, size_t tape_length, uint8_t *out, size_t out_length, "
+                                                         "uint8_t *space, size_t space_length") == 0);
+    end_group("parameters");
+}
+
+/* P1 to P4, and paper 01's plan tape and reply for P2. */
+static void rounds(void)
+{
+    static const uint8_t bytes[26] = {0x10, 0x00, 0x64, 0x20, 0x01, 0x30, 0x00, 0x00, 0x0A, 0x00, 0x1E, 0x30, 0x03,
+                                      0x00, 0x5A, 0x00, 0x0A, 0x20, 0x02, 0x30, 0x01, 0x00, 0x14, 0x00, 0x28, 0x7F};
+    struct lent t = session();
+    planned("P2", &t, "1201");
+    written("P2", &t, bytes, sizeof bytes);
+    t.tape_length = 26;
+    written("P2 in 26 bytes", &t, bytes, sizeof bytes);
+    t.tape_length = 25;
+    write_refused("P2 in 25 bytes", &t, 10);
+    t.labels[2] = 3;
+    write_refused("P2 with a label 3", &t, 9);
+    read_back("P2", &t);
+    replied_to("P2", &t, "heard 3\n0 1\n1 2\n2 0\n3 1\n", true);
+    t.marks[2] = 1;
+    planned("P3", &t, "1021");
+    read_back("P3", &t);
+    t.marks[0] = t.marks[1] = 1;
+    plan_refused("P4", &t, 8);
+    replied_to("P4", &t, "refused 8\n", true);
+    set_rows(&t, 0);
+    planned("P1", &t, "");
+    read_back("P1", &t);
+    end_group("rounds");
+}
+
+/* P9 and P10: each exchange of two of the hours gives another plan or a refusal. In 200 ticks R is none of the hours. */
+static void runs(void)
+{
+    static const uint8_t bytes[20] = {0x11, 0x00, 0x64, 0x20, 0x01, 0x30, 0x02, 0x00, 0x00, 0x00,
+                                      0x32, 0x20, 0x02, 0x30, 0x00, 0x00, 0x2D, 0x00, 0x3C, 0x7F};
+    struct lent t = p9();
+    planned("P9", &t, "201");
+    written("P9", &t, bytes, sizeof bytes);
+    read_back("P9", &t);
+    replied_to("P9", &t, "heard 2\n0 2\n1 0\n2 1\n", true);
+    t.marks[1] = 1;
+    planned("P10", &t, "021");
+    t.marks[1] = 0;
+    t.ticks = 200;
+    planned("P9 in 200 ticks", &t, "201");
+    t.p1 = 40, t.q1 = 100, t.p2 = 0, t.q2 = 50;
+    write_refused("P9's plan with the receivers exchanged", &t, 9);
+    planned("P9 with the receivers exchanged", &t, "102");
+    t.ticks = 0x0102, t.p1 = 0x0304, t.q1 = 0x0506, t.p2 = 0x0708, t.q2 = 0x090A;
+    read_back("a run whose numbers are all different", &t);
+    end_group("runs");
+}
+
+/* Wrong in every way: mended one by one, the refusals come in the order that the header gives. */
+static struct lent all_wrong(bool run)
+{
+    struct lent t = many(run, ROWS + 1);
+    t.ticks = 1;
+    t.p1 = 51;
+    t.ends[0] = 0;
+    t.marks[0] = 9;
+    for (size_t i = 1; i < 4; i++) /* three rows that must be heard at once, in the hours of both receivers */
+        t.starts[i] = 45, t.ends[i] = 46, t.marks[i] = 1;
+    return t;
+}
+
+/* The labels of `all_wrong` when it is mended: rows 1 to 3 and row 45 are equal windows. */
+static const char *labels_of_mended(bool run, char text[ROWS + 1])
+{
+    labels_of_many(run, text);
+    text[2] = '2';
+    text[3] = text[45] = '0';
+    return text;
+}
+
+static void plan_refusals(const char *what, bool run)
+{
+    char labels[ROWS + 1];
+    struct lent t = all_wrong(run);
+    size_t *lengths[4] = {&t.starts_length, &t.ends_length, &t.marks_length, &t.labels_length};
+    t.space_length = SPACE - 1;
+    for (size_t i = 0; i < 4; i++) {
+        *lengths[i] = ROWS;
+        plan_refused(what, &t, 1);
+        set_rows(&t, ROWS + 1);
+    }
+    plan_refused(what, &t, 2);
+    set_rows(&t, ROWS);
+    plan_refused(what, &t, 3);
+    t.space_length = SPACE;
+    plan_refused(what, &t, 4);
+    t.ticks = 100;
+    if (run)
+        plan_refused(what, &t, 5);
+    t.p1 = 0;
+    plan_refused(what, &t, 6);
+    t.ends[0] = 1;
+    plan_refused(what, &t, 7);
+    t.marks[0] = 0;
+    plan_refused(what, &t, 8);
+    t.marks[3] = 0;
+    planned(what, &t, labels_of_mended(run, labels));
+}
+
+static void write_refusals(const char *what, bool run)
+{
+    char labels[ROWS + 1];
+    struct lent t = all_wrong(run);
+    size_t *lengths[4] = {&t.starts_length, &t.ends_length, &t.marks_length, &t.labels_length};
+    set_labels(&t, labels_of_mended(run, labels));
+    t.tape_length = 8 + 6 * 62 - 1;
+    for (size_t i = 0; i < 4; i++) {
+        *lengths[i] = ROWS;
+        write_refused(what, &t, 1);
+        set_rows(&t, ROWS + 1);
+    }
+    write_refused(what, &t, 2);
+    set_rows(&t, ROWS);
+    write_refused(what, &t, 4);
+    t.ticks = 100;
+    if (run)
+        write_refused(what, &t, 5);
+    t.p1 = 0;
+    write_refused(what, &t, 6);
+    t.ends[0] = 1;
+    write_refused(what, &t, 7);
+    t.marks[0] = 0;
+    write_refused(what, &t, 9);
+    t.marks[3] = 0;
+    write_refused(what, &t, 10);
+    t.tape_length++;
+    check(what, "accepted when all is mended", write_plan(&t).refusal == 0);
+}
+
+static void read_refusals(void)
+{
+    struct lent t = many(true, ROWS + 1);
+    struct fleet f = fleet_of(&t);
+    struct places p = fresh_places();
+    size_t *lengths[3] = {&p.starts_length, &p.ends_length, &p.marks_length};
+    f.bytes[f.length - 1] = 0x7E;
+    for (size_t i = 0; i < 3; i++) {
+        *lengths[i] = ROWS - 1;
+        read_refused("a list of 63 places", &f, p, 1);
+        *lengths[i] = ROWS + 1;
+        read_refused("a list of 65 places", &f, p, 1);
+        *lengths[i] = ROWS;
+    }
+    read_refused("no STOP", &f, p, 11);
+    f.bytes[f.length - 1] = 0x7F;
+    read_refused("65 rows", &f, p, 2);
+    set_rows(&t, ROWS);
+    read_back("64 rows", &t);
+}
+
+static void all_refusals(void)
+{
+    plan_refusals("hub_plan_round", false);
+    plan_refusals("hub_plan_run", true);
+    write_refusals("hub_write_plan_round", false);
+    write_refusals("hub_write_plan_run", true);
+    read_refusals();
+    uint16_t p12[2][2] = {{1, 2}, {3, 3}};
+    struct lent t = lend(false, 2, p12);
+    t.ticks = 10;
+    t.marks[0] = 9;
+    plan_refused("P12", &t, 7);
+    end_group("refusals");
+}
+
+/* Planner and writer at so many ticks, with a window that ends with the last tick. */
+static void at_ticks(const char *what, bool run, uint16_t ticks, bool taken)
+{
+    uint16_t window[1][2] = {{0, 1}};
+    struct lent t = lend(run, 1, window);
+    t.ticks = t.q1 = t.q2 = ticks;
+    t.p1 = t.p2 = 0;
+    if (ticks > 1) {
+        t.starts[0] = (uint16_t)(ticks - 1);
+        t.ends[0] = run ? ticks : 0;
+    }
+    if (taken)
+        planned(what, &t, "1");
+    else
+        plan_refused(what, &t, 4);
+    t.labels[0] = 1;
+    if (taken)
+        check(what, "the writer takes it", write_plan(&t).refusal == 0);
+    else
+        write_refused(what, &t, 4);
+    if (run || !taken)
+        return;
+    t.ends[0] = ticks;
+    plan_refused("end R in a round", &t, 6);
+}
+
+static void at_bytes(const char *what, bool run)
+{
+    uint8_t bytes[TAPE];
+    char labels[ROWS + 1];
+    struct lent t = many(run, ROWS);
+    t.space_length = HUB_SPACE_BYTES - 1;
+    plan_refused(what, &t, 3);
+    t.space_length = HUB_SPACE_BYTES;
+    planned(what, &t, labels_of_many(run, labels));
+    t.space_length = SPACE + BEYOND;
+    planned(what, &t, labels);
+    t.tape_length = HUB_PLAN_TAPE_BYTES - 1;
+    write_refused(what, &t, 10);
+    t.tape_length = HUB_PLAN_TAPE_BYTES;
+    check(what, "64 heard rows fill HUB_PLAN_TAPE_BYTES", tape_of_many(run, bytes) == HUB_PLAN_TAPE_BYTES);
+    written(what, &t, bytes, TAPE);
+    t.tape_length = TAPE + BEYOND;
+    written(what, &t, bytes, TAPE);
+}
+
+static void limits(void)
+{
+    for (int run = 0; run < 2; run++) {
+        at_ticks("1 tick", run, 1, false);
+        at_ticks("2 ticks", run, 2, true);
+        at_ticks("43,200 ticks", run, 43200, true);
+        at_ticks("43,201 ticks", run, 43201, false);
+        at_bytes(run ? "64 rows in a run" : "64 rows in a round", run);
+        struct lent t = many(run, ROWS + 1);
+        plan_refused("65 rows", &t, 2);
+        write_refused("65 rows", &t, 2);
+    }
+    end_group("limits");
+}
+
+/* Output and working space that are too short, and the longest tapes. */
+static void replies(void)
+{
+    struct lent t = session();
+    struct fleet f = fleet_of(&t);
+    memset(space, BEFORE, sizeof space);
+    memset(out, BEFORE, sizeof out);
+    check("output of 399 bytes", "the result is 0", hub_reply(f.bytes, f.length, out, HUB_REPLY_BYTES - 1, space, SPACE) == 0);
+    check("output of 399 bytes", "the output is untouched", all_are(out, sizeof out, BEFORE));
+    check_space("output of 399 bytes", false);
+    check("space of 16,383 bytes", "the length", hub_reply(f.bytes, f.length, out, sizeof out, space, HUB_SPACE_BYTES - 1) == 10);
+    check("space of 16,383 bytes", "the reply", memcmp(out, "refused 3\n", 10) == 0);
+    check("space of 16,383 bytes", "the bytes after the reply", all_are(out + 10, sizeof out - 10, BEFORE));
+    check_space("space of 16,383 bytes", false);
+    f.length--;
+    replied("no STOP", &f, "refused 11\n", false);
+    f = long_fleet(79);
+    check("79 rows", "the longest round that hub_reply reads", f.length == 399 && f.length <= HUB_FLEET_TAPE_BYTES);
+    replied("79 rows", &f, "refused 2\n", false);
+    f = long_fleet(80);
+    check("80 rows", "longer than hub_reply takes", f.length > HUB_FLEET_TAPE_BYTES);
+    replied("80 rows", &f, "refused 11\n", false);
+    end_group("replies");
+}
+
+int main(void)
+{
+    constants();
+    structs();
+    parameters();
+    rounds();
+    runs();
+    all_refusals();
+    limits();
+    replies();
+    return all_failures != 0;
+}
