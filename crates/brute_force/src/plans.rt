@@ -1,4 +1,7 @@
 // Every label list of a table of at most 7 rows is tried, in paper 01's order, and the first plan that hears most is kept.
+ghost use mathlib.Core.Path.{_≡_};
+ghost use mathlib.Core.Bool.{false};
+ghost use mathlib.Core.Logic.{_↔_, _≢_};
 
 // What the search found. `answer` is 0 where there is no plan, else one more than the most that a plan hears.
 pub struct Found {
@@ -190,7 +193,9 @@ pub fn search(rows: usize, sets: &[u64; 8], permissions: &[u8; 8]) -> Found {
 }
 
 // Two answers, or their labels where there is a plan, are not the same.
-pub fn other(answer: u8, labels: &[u8; 8], answer2: u8, labels2: &[u8; 8]) -> bool {
+pub fn other(answer: u8, labels: &[u8; 8], answer2: u8, labels2: &[u8; 8]) -> bool
+    ensures { λ r. ⌜ (r ≡ false) ↔ ((answer ≡ answer2) × (answer ≢ 0 → now (labels .entry) ≡ now (labels2 .entry))) ⌝ }
+{
     if answer != answer2 {
         return true;
     }
@@ -201,7 +206,9 @@ pub fn other(answer: u8, labels: &[u8; 8], answer2: u8, labels2: &[u8; 8]) -> bo
 }
 
 // Two searches find different answers.
-pub fn changed(found: Found, found2: Found) -> bool {
+pub fn changed(found: Found, found2: Found) -> bool
+    ensures { λ r. ⌜ (r ≡ false) ↔ ((found .answer ≡ found2 .answer) × (found .answer ≢ 0 → found .labels ≡ found2 .labels)) ⌝ }
+{
     let labels = found.labels;
     let labels2 = found2.labels;
     other(found.answer, &labels, found2.answer, &labels2)

@@ -1,6 +1,9 @@
 // Calls of the planner and of the plan tape writer, each judged whole: the refusal's number, the count, every place of the list that is written,
 // every byte of the working space. Product code has a part in each call: `table::setting_of` makes its setting, `refusals::number` gives the number of its refusal.
 ghost use Prim.Native.Nat.{_≤_};
+ghost use mathlib.Core.Path.{_≡_};
+ghost use lib.ListN.{take, replicate};
+ghost use Rattle.trial_calls.specs.Judged.{writtenAt, isWritten, cleared};
 use refusals::Answer;
 use window::Kind;
 
@@ -17,14 +20,18 @@ fn at_most(n: usize, most: usize) -> usize
 }
 
 // The first places of a list; all if there are fewer.
-pub fn first_words(list: &[u16], n: usize) -> &[u16] {
+pub fn first_words(list: &[u16], n: usize) -> &[u16]
+    ensures { λ r. ⌜ now r ≡ take n (now (list .entry)) ⌝ }
+{
     if n <= list.len() {
         return &list[..n];
     }
     list
 }
 
-pub fn first_bytes(list: &[u8], n: usize) -> &[u8] {
+pub fn first_bytes(list: &[u8], n: usize) -> &[u8]
+    ensures { λ r. ⌜ now r ≡ take n (now (list .entry)) ⌝ }
+{
     if n <= list.len() {
         return &list[..n];
     }
@@ -41,12 +48,16 @@ fn is_answer(answer: Answer, number: u8, count: usize) -> bool {
 }
 
 // What is to stand at a place of a list whose first places are written.
-fn written_at(first: &[u8], i: usize) -> u8 {
+fn written_at(first: &[u8], i: usize) -> u8
+    ensures { λ r. ⌜ r ≡ writtenAt (now (first .entry)) i ⌝ }
+{
     if i < first.len() { first[i] } else { BEFORE }
 }
 
 // Whether the first places of a list are written as they are to be and the others are as they were.
-pub fn is_written(list: &[u8], first: &[u8]) -> bool {
+pub fn is_written(list: &[u8], first: &[u8]) -> bool
+    ensures { λ r. ⌜ r ≡ isWritten (now (list .entry)) (now (first .entry)) ⌝ }
+{
     let mut i = 0;
     while i < list.len() {
         if list[i] != written_at(first, i) {
@@ -57,28 +68,23 @@ pub fn is_written(list: &[u8], first: &[u8]) -> bool {
     true
 }
 
-// What is to stand at a place of the working space: a call that is accepted clears its first bytes, and so does refusal 8.
-fn space_at(number: u8, i: usize) -> u8 {
-    if 16384 <= i {
-        return BEFORE;
-    }
+// How many bytes of the working space a call with that number clears.
+fn cleared(number: u8) -> usize
+    ensures { λ r. ⌜ r ≡ cleared number ⌝ }
+{
     match number {
-        0 => 0,
-        8 => 0,
-        _ => BEFORE,
+        0 => 16384,
+        8 => 16384,
+        _ => 0,
     }
 }
 
 // Whether the working space is as a call with that number is to leave it.
-pub fn is_left(space: &[u8], number: u8) -> bool {
-    let mut i = 0;
-    while i < space.len() {
-        if space[i] != space_at(number, i) {
-            return false;
-        }
-        i += 1;
-    }
-    true
+pub fn is_left(space: &[u8], number: u8) -> bool
+    ensures { λ r. ⌜ r ≡ isWritten (now (space .entry)) (take (cleared number) (replicate 16384 0)) ⌝ }
+{
+    let zeros = [0u8; 16384];
+    is_written(space, first_bytes(&zeros, cleared(number)))
 }
 
 // How many labels are 1 or 2.

@@ -1,7 +1,12 @@
 // What the trial programs count and print: cases, and those for which a fact holds.
+ghost use mathlib.Core.Path.{_≡_};
+ghost use mathlib.Core.Bool.{cond};
+ghost use Prim.Native.Nat.{_+_, _%_, _^_};
 
 // One more if the fact holds.
-pub fn more(count: u32, fact: bool) -> u32 {
+pub fn more(count: u32, fact: bool) -> u32
+    ensures { λ r. ⌜ r ≡ cond fact ((count + 1) % 2 ^ 32) count ⌝ }
+{
     if fact {
         std::num::wrapping_add_u32(count, 1)
     } else {
@@ -22,15 +27,19 @@ pub struct Group {
     pub differ: u32,
 }
 
-pub fn no_cases() -> Group {
+pub fn no_cases() -> Group
+    ensures { λ r. ⌜ r ≡ record { cases = 0; differ = 0 } ⌝ }
+{
     Group {
         cases: 0,
         differ: 0,
     }
 }
 
-// One case more.
-pub fn with_case(group: Group, right: bool) -> Group {
+// One case more, which differs if it is not right.
+pub fn with_case(group: Group, right: bool) -> Group
+    ensures { λ r. ⌜ r ≡ record { cases = (group .cases + 1) % 2 ^ 32; differ = cond right (group .differ) ((group .differ + 1) % 2 ^ 32) } ⌝ }
+{
     Group {
         cases: more(group.cases, true),
         differ: more(group.differ, !right),

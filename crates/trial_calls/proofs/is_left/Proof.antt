@@ -1,52 +1,34 @@
--- `trial_calls::is_left` is safe and ends: fewer bytes are left at each turn.
+-- `trial_calls::is_left` meets its contract: the working space is a list of which so many zeros are written.
+use mathlib.Core.Path.{ap, _∙_}
 use borrow.Author.Needs.{needs}
-use native.Mathlib.Omega.{arith}
-use Prim.Native.Nat.{_-_}
-use lib.ListN.{length}
+use lib.ListN.{take, replicate}
+use Rattle.trial_calls.specs.Judged.{isWritten}
 use Rattle.trial_calls.proofs.is_left.Statement.{statement}
 use Rattle.trial_calls.proofs.is_left.Tie as tie
 
-abbrev Inv-loop : tie.InvT-loop
-Inv-loop space number i₀ i = Unit {0}
+slice-aggregate-first-bytes : tie.Need-slice-aggregate-first-bytes
+slice-aggregate-first-bytes c = search needs
 
-abbrev μ-loop : tie.MeasureT-loop
-μ-loop space number i₀ i = length space - i
+cleared-requires : tie.Need-cleared-requires
+cleared-requires c κs = search needs
 
-loop-holds : tie.Need-loop-holds Inv-loop μ-loop
-loop-holds c = tt
+first-bytes-requires : tie.Need-first-bytes-requires
+first-bytes-requires c κs = search needs
 
-shared-slice-read-if1 : tie.Need-shared-slice-read-if1 Inv-loop μ-loop
-shared-slice-read-if1 c = search needs
+is-written-requires : tie.Need-is-written-requires
+is-written-requires c κs = search needs
 
-space-at-requires : tie.Need-space-at-requires Inv-loop μ-loop
-space-at-requires c κs = tt
-
-returns : tie.Need-returns Inv-loop μ-loop
-returns c = tt
-
-add-i : tie.Need-add-i Inv-loop μ-loop
-add-i c = omega arith
-
-loop-less : tie.Need-loop-less Inv-loop μ-loop
-loop-less c = omega arith
-
-loop-again : tie.Need-loop-again Inv-loop μ-loop
-loop-again c = tt
-
-returns-2 : tie.Need-returns-2 Inv-loop μ-loop
-returns-2 c = tt
+returns : tie.Need-returns
+returns c =
+    c .is-written .ensures
+    ∙ ap (isWritten _) (c .before .first-bytes .ensures ∙ ap (λ n. take n (replicate 16384 0)) (c .before .before .cleared .ensures))
 
 pub is-left-spec : {M : Type 1} → statement M
 is-left-spec =
     tie.close
     (tie.spec
-    Inv-loop
-    μ-loop
-    loop-holds
-    shared-slice-read-if1
-    space-at-requires
-    returns
-    add-i
-    loop-less
-    loop-again
-    returns-2)
+    slice-aggregate-first-bytes
+    cleared-requires
+    first-bytes-requires
+    is-written-requires
+    returns)

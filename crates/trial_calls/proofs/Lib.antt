@@ -1,0 +1,2 @@
+-- What the proofs of the crate `trial_calls` share.
+mod Parts
