@@ -1,4 +1,5 @@
-/* Paper 01's session in C: plans the round P2, prints the labels, then the bytes of the plan tape, then what hubplan prints for the fleet tape.
+/* Paper 01's session in C: plans the round P2, prints the labels, then the bytes of the plan tape, then what hubplan prints for the fleet tape, then what a player of the
+ * plan tape tells at some ticks.
  *
  *   rt staticlib hub_c
  *   gcc -std=c99 -Wall -Wextra -Werror -Iinclude examples/session.c target/staticlib/libhub_c.a -o target/session && target/session
@@ -23,6 +24,33 @@ static int refused(const char *what, unsigned number)
 {
     fprintf(stderr, "%s: refused %u\n", what, number);
     return 1;
+}
+
+static void print_receiver(unsigned number, struct hub_receiver receiver)
+{
+    if (receiver.listening)
+        printf("receiver %u listens to row %u until %u", number, (unsigned)receiver.row, (unsigned)receiver.until);
+    else
+        printf("receiver %u is idle", number);
+}
+
+/* Prints what the player tells at so many ticks from the first on. The player is all that is kept between two steps. */
+static int play(const uint8_t *tape, size_t length, uint16_t first, unsigned steps)
+{
+    struct hub_started started = hub_player_start(tape, length, first);
+    if (started.refusal != HUB_ACCEPTED)
+        return refused("player", started.refusal);
+    struct hub_player player = started.player;
+    for (; steps > 0; steps--) {
+        struct hub_stepped stepped = hub_player_step(tape, length, player);
+        printf("tick %u: ", (unsigned)player.tick);
+        print_receiver(1, stepped.receiver1);
+        printf(", ");
+        print_receiver(2, stepped.receiver2);
+        printf("\n");
+        player = stepped.player;
+    }
+    return 0;
 }
 
 int main(void)
@@ -50,5 +78,7 @@ int main(void)
     uint8_t text[HUB_REPLY_BYTES];
     size_t length = hub_reply(fleet, sizeof fleet, text, sizeof text, space, sizeof space);
     fwrite(text, 1, length, stdout);
-    return 0;
+
+    /* from one window to the next, both receivers at once, and from the last tick of the round to the first */
+    return play(tape, written.count, 8, 5) || play(tape, written.count, 25, 1) || play(tape, written.count, 98, 4);
 }

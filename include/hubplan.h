@@ -18,20 +18,22 @@
 extern "C" {
 #endif
 
-/* Refusals, by their numbers in paper 01. The first that applies is reported, in the order given at each function. */
+/* Refusals, by their numbers in papers 01 and 02. The first that applies is reported, in the order given at each function. */
 enum hub_refusal {
     HUB_ACCEPTED = 0,
-    HUB_LISTS = 1,    /* lent lists differ in length; in hub_read_fleet, a list has other than 64 places */
-    HUB_ROWS = 2,     /* more than 64 rows */
-    HUB_SPACE = 3,    /* working space shorter than HUB_SPACE_BYTES */
-    HUB_TICKS = 4,    /* ticks outside 2 to 43,200 */
-    HUB_HOURS = 5,    /* open hours wrong: p above q, or q above ticks (run only) */
-    HUB_WINDOW = 6,   /* a window breaks the rules: in a round start and end below ticks and different, in a run start below end and end at most ticks */
-    HUB_MARK = 7,     /* a mark above 1 */
-    HUB_NO_PLAN = 8,  /* no plan exists */
-    HUB_NOT_PLAN = 9, /* labels offered to the writer are not a plan */
-    HUB_BUFFER = 10,  /* plan tape buffer shorter than the tape */
-    HUB_FORM = 11     /* not of the form of a fleet tape */
+    HUB_LISTS = 1,      /* lent lists differ in length; in hub_read_fleet, a list has other than 64 places */
+    HUB_ROWS = 2,       /* more than 64 rows */
+    HUB_SPACE = 3,      /* working space shorter than HUB_SPACE_BYTES */
+    HUB_TICKS = 4,      /* ticks outside 2 to 43,200 */
+    HUB_HOURS = 5,      /* open hours wrong: p above q, or q above ticks (run only) */
+    HUB_WINDOW = 6,     /* a window breaks the rules: in a round start and end below ticks and different, in a run start below end and end at most ticks */
+    HUB_MARK = 7,       /* a mark above 1 */
+    HUB_NO_PLAN = 8,    /* no plan exists */
+    HUB_NOT_PLAN = 9,   /* labels offered to the writer are not a plan */
+    HUB_BUFFER = 10,    /* plan tape buffer shorter than the tape */
+    HUB_FORM = 11,      /* not of the form of a fleet tape */
+    HUB_TAPE = 12,      /* not a plan tape that the writer can write, for any table and labels */
+    HUB_FIRST_TICK = 13 /* first tick of a player not below the tape's ticks */
 };
 
 enum {
@@ -117,6 +119,52 @@ struct hub_report hub_read_fleet(const uint8_t *tape, size_t tape_length,
 size_t hub_reply(const uint8_t *tape, size_t tape_length,
                  uint8_t *out, size_t out_length,
                  uint8_t *space, size_t space_length);
+
+/* A player of a plan tape: the tick of its next step. On a tape whose ticks are not above it the player is finished. It is all that there is to keep between two steps,
+ * and the caller keeps it; the tape is lent at each step. */
+struct hub_player {
+    uint16_t tick;
+};
+
+/* What a receiver does at a tick: it listens to a row until a tick, which is the window's end as taped, or it is idle. Row and until are 0 where it is idle. */
+struct hub_receiver {
+    bool listening;
+    uint8_t row;
+    uint16_t until;
+};
+
+/* What a start gives: the refusal and the player. */
+struct hub_started {
+    uint8_t refusal;
+    struct hub_player player;
+};
+
+/* What a step gives: whether the player is finished, what each receiver does at the step's tick (idle where it is finished), and the player of the next step. */
+struct hub_stepped {
+    bool finished;
+    struct hub_receiver receiver1;
+    struct hub_receiver receiver2;
+    struct hub_player player;
+};
+
+/* Starts a player on a plan tape, at the tick `first`.
+ *
+ * Accepted exactly if the writer can write these bytes, all of them, for some table and labels (of a run, with hours 0 to ticks), and `first` is below the ticks of the
+ * tape: the player's tick is `first`, and its steps follow the tape, as hub_player_step says. On a refusal the player's tick is 65,535, so it is finished on every tape.
+ * Order: 12, 13. */
+struct hub_started hub_player_start(const uint8_t *tape, size_t tape_length, uint16_t first);
+
+/* A step of a player: tells what each receiver does at the player's tick, and moves on by one tick.
+ *
+ * From an accepted start, on the same bytes, with the player that the start or the step before gave: step n, counted from 0, is at tick first + n, in a round modulo ticks.
+ * A receiver listens to a row until a tick exactly if one of its LISTENs has this row and this end and its window covers the tick of the step, and is idle if none does.
+ * In a run the player is finished after tick ticks - 1, in a round never. A step of a finished player says finished and gives the player as it was.
+ *
+ * The form of the tape, the order and the rows are not judged again. On any bytes and with any player a step does this: ROUND or RUN stands first, and the player's tick is below its ticks, else the player is
+ * finished. If a RECEIVER comes next, whatever its number, the LISTENs after it are those of receiver 1; if another comes then, the LISTENs after it are those of receiver 2.
+ * A command that is cut short is none, and what stands after these is not looked at. Of a receiver's LISTENs whose window breaks no rule (refusal 6) and covers the tick
+ * the last is told. The next tick is one more, and in a round 0 after ticks - 1. */
+struct hub_stepped hub_player_step(const uint8_t *tape, size_t tape_length, struct hub_player player);
 
 #ifdef __cplusplus
 }

@@ -1,5 +1,5 @@
 /* Tests include/hubplan.h by itself: every function is called as the header declares it, on paper 01's session, on runs with unequal hours, at each limit and for each
- * refusal, and every constant, field and parameter is compared with paper 01's. The numbers here are the paper's, since the header's constants are what is tested.
+ * refusal, and every constant, field and parameter is compared with the papers'. The numbers here are the papers', since the header's constants are what is tested.
  *
  *   gcc -std=c99 -Wall -Wextra -Wpedantic -Werror -Iinclude tests/header.c target/staticlib/libhub_c.a -o target/header && target/header
  */
@@ -13,6 +13,8 @@
 #define hub_write_plan_run(...) hub_write_plan_run(__VA_ARGS__); static const char write_run_takes[] = #__VA_ARGS__
 #define hub_read_fleet(...) hub_read_fleet(__VA_ARGS__); static const char read_fleet_takes[] = #__VA_ARGS__
 #define hub_reply(...) hub_reply(__VA_ARGS__); static const char reply_takes[] = #__VA_ARGS__
+#define hub_player_start(...) hub_player_start(__VA_ARGS__); static const char player_start_takes[] = #__VA_ARGS__
+#define hub_player_step(...) hub_player_step(__VA_ARGS__); static const char player_step_takes[] = #__VA_ARGS__
 #include "hubplan.h"
 #undef hub_plan_round
 #undef hub_plan_run
@@ -20,6 +22,8 @@
 #undef hub_write_plan_run
 #undef hub_read_fleet
 #undef hub_reply
+#undef hub_player_start
+#undef hub_player_step
 
 #define ROWS 64
 #define SPACE 16384
@@ -53,9 +57,14 @@ static uint8_t space[SPACE + BEYOND];
 static uint8_t tape[TAPE + BEYOND];
 static uint8_t out[REPLY + BEYOND];
 
-/* The header's refusals at paper 01's numbers. */
-static const unsigned refusals[12] = {HUB_ACCEPTED, HUB_LISTS, HUB_ROWS,    HUB_SPACE,    HUB_TICKS,  HUB_HOURS,
-                                      HUB_WINDOW,   HUB_MARK,  HUB_NO_PLAN, HUB_NOT_PLAN, HUB_BUFFER, HUB_FORM};
+/* The header's refusals at the papers' numbers. */
+static const unsigned refusals[14] = {HUB_ACCEPTED, HUB_LISTS,   HUB_ROWS,     HUB_SPACE,  HUB_TICKS, HUB_HOURS, HUB_WINDOW,
+                                      HUB_MARK,     HUB_NO_PLAN, HUB_NOT_PLAN, HUB_BUFFER, HUB_FORM,  HUB_TAPE,  HUB_FIRST_TICK};
+
+/* Plan tapes of the session and of P9. */
+static const uint8_t session_tape[26] = {0x10, 0x00, 0x64, 0x20, 0x01, 0x30, 0x00, 0x00, 0x0A, 0x00, 0x1E, 0x30, 0x03,
+                                         0x00, 0x5A, 0x00, 0x0A, 0x20, 0x02, 0x30, 0x01, 0x00, 0x14, 0x00, 0x28, 0x7F};
+static const uint8_t p9_tape[20] = {0x11, 0x00, 0x64, 0x20, 0x01, 0x30, 0x02, 0x00, 0x00, 0x00, 0x32, 0x20, 0x02, 0x30, 0x00, 0x00, 0x2D, 0x00, 0x3C, 0x7F};
 
 /* ---- counting ---- */
 
@@ -88,7 +97,7 @@ static bool all_are(const void *bytes, size_t length, uint8_t value)
 
 static void check_refusal(const char *what, unsigned got, unsigned number)
 {
-    check(what, "the refusal by paper 01's number", got == number);
+    check(what, "the refusal by the papers' number", got == number);
     check(what, "the refusal by the header's constant", got == refusals[number]);
 }
 
@@ -368,12 +377,83 @@ static void replied_to(const char *what, const struct lent *t, const char *text,
     replied(what, &f, text, cleared);
 }
 
+/* ---- the player ---- */
+
+/* What is told from one tick to the tick before another: a row and until when, for each receiver; IDLE is no row. */
+#define IDLE {-1, 0}
+struct told {
+    unsigned from, to;
+    int receiver1[2], receiver2[2];
+};
+
+static const struct told told_of_session[6] = {{0, 10, {3, 10}, IDLE},  {10, 20, {0, 30}, IDLE}, {20, 30, {0, 30}, {1, 40}},
+                                               {30, 40, IDLE, {1, 40}}, {40, 90, IDLE, IDLE},    {90, 100, {3, 10}, IDLE}};
+static const struct told told_of_p9[4] = {{0, 45, {2, 50}, IDLE}, {45, 50, {2, 50}, {0, 60}}, {50, 60, IDLE, {0, 60}}, {60, 100, IDLE, IDLE}};
+
+static struct hub_stepped step(const uint8_t *bytes, size_t length, uint16_t tick)
+{
+    struct hub_player player = {tick};
+    return hub_player_step(bytes, length, player);
+}
+
+/* Row and until are 0 where the receiver is idle. */
+static bool tells(struct hub_receiver r, const int row_until[2])
+{
+    if (row_until[0] < 0)
+        return !r.listening && r.row == 0 && r.until == 0;
+    return r.listening && r.row == row_until[0] && r.until == row_until[1];
+}
+
+static void stepped(const char *what, const struct told *told, struct hub_stepped s, uint16_t next)
+{
+    check(what, "not finished", !s.finished);
+    check(what, "what receiver 1 does", tells(s.receiver1, told->receiver1));
+    check(what, "what receiver 2 does", tells(s.receiver2, told->receiver2));
+    check(what, "the next tick", s.player.tick == next);
+}
+
+static void stays_finished(const char *what, const uint8_t *bytes, size_t length, uint16_t tick)
+{
+    static const int idle[2] = IDLE;
+    struct hub_stepped s = step(bytes, length, tick);
+    check(what, "finished", s.finished);
+    check(what, "both receivers are idle", tells(s.receiver1, idle) && tells(s.receiver2, idle));
+    check(what, "the player is as it was", s.player.tick == tick);
+}
+
+/* Starts a player on a tape of 100 ticks and follows it for so many steps, none of them after a run's last tick; gives the player after them. */
+static struct hub_player played(const char *what, const uint8_t *bytes, size_t length, uint16_t first, unsigned steps, const struct told *told)
+{
+    struct hub_started s = hub_player_start(bytes, length, first);
+    check_refusal(what, s.refusal, 0);
+    check(what, "the first tick", s.player.tick == first);
+    for (unsigned n = 0; n < steps; n++) {
+        unsigned tick = (first + n) % 100, next = bytes[0] == 0x10 ? (tick + 1) % 100 : tick + 1;
+        const struct told *now = told;
+        while (tick >= now->to)
+            now++;
+        struct hub_stepped after = hub_player_step(bytes, length, s.player);
+        stepped(what, now, after, (uint16_t)next);
+        s.player = after.player;
+    }
+    return s.player;
+}
+
+static void start_refused(const char *what, const uint8_t *bytes, size_t length, uint16_t first, unsigned number)
+{
+    struct hub_started s = hub_player_start(bytes, length, first);
+    check_refusal(what, s.refusal, number);
+    check(what, "the player's tick", s.player.tick == 65535);
+    stays_finished(what, bytes, length, s.player.tick);
+    stays_finished(what, session_tape, sizeof session_tape, s.player.tick);
+}
+
 /* ---- the groups ---- */
 
 static void constants(void)
 {
-    for (unsigned i = 0; i < 12; i++)
-        check("a refusal", "its constant is paper 01's number", refusals[i] == i);
+    for (unsigned i = 0; i < 14; i++)
+        check("a refusal", "its constant is the papers' number", refusals[i] == i);
     check("constants", "HUB_MOST_ROWS", HUB_MOST_ROWS == ROWS);
     check("constants", "HUB_SPACE_BYTES", HUB_SPACE_BYTES == SPACE);
     check("constants", "HUB_PLAN_TAPE_BYTES", HUB_PLAN_TAPE_BYTES == TAPE);
@@ -400,6 +480,22 @@ static void structs(void)
     check("hub_report", "p2", offsetof(struct hub_report, p2) == 8);
     check("hub_report", "q2", offsetof(struct hub_report, q2) == 10);
     check("hub_report", "rows", offsetof(struct hub_report, rows) == 16);
+    struct hub_receiver l;
+    struct hub_started b;
+    struct hub_stepped n;
+    check("hub_player", "sizes", sizeof b.player == 2 && sizeof b.player.tick == 2);
+    check("hub_receiver", "sizes", sizeof l == 4 && sizeof l.listening == 1 && sizeof l.row == 1 && sizeof l.until == 2);
+    check("hub_receiver", "listening", offsetof(struct hub_receiver, listening) == 0);
+    check("hub_receiver", "row", offsetof(struct hub_receiver, row) == 1);
+    check("hub_receiver", "until", offsetof(struct hub_receiver, until) == 2);
+    check("hub_started", "sizes", sizeof b == 4 && sizeof b.refusal == 1);
+    check("hub_started", "refusal", offsetof(struct hub_started, refusal) == 0);
+    check("hub_started", "player", offsetof(struct hub_started, player) == 2);
+    check("hub_stepped", "sizes", sizeof n == 12 && sizeof n.finished == 1 && sizeof n.receiver1 == 4 && sizeof n.receiver2 == 4 && sizeof n.player == 2);
+    check("hub_stepped", "finished", offsetof(struct hub_stepped, finished) == 0);
+    check("hub_stepped", "receiver1", offsetof(struct hub_stepped, receiver1) == 2);
+    check("hub_stepped", "receiver2", offsetof(struct hub_stepped, receiver2) == 6);
+    check("hub_stepped", "player", offsetof(struct hub_stepped, player) == 10);
     end_group("structs");
 }
 
@@ -419,19 +515,19 @@ static void parameters(void)
                                                                    "uint16_t *ends, size_t ends_length, uint8_t *marks, size_t marks_length") == 0);
     check("hub_reply", "parameters", strcmp(reply_takes, "const uint8_t *tape, size_t tape_length, uint8_t *out, size_t out_length, "
                                                          "uint8_t *space, size_t space_length") == 0);
+    check("hub_player_start", "parameters", strcmp(player_start_takes, "const uint8_t *tape, size_t tape_length, uint16_t first") == 0);
+    check("hub_player_step", "parameters", strcmp(player_step_takes, "const uint8_t *tape, size_t tape_length, struct hub_player player") == 0);
     end_group("parameters");
 }
 
 /* P1 to P4, and paper 01's plan tape and reply for P2. */
 static void rounds(void)
 {
-    static const uint8_t bytes[26] = {0x10, 0x00, 0x64, 0x20, 0x01, 0x30, 0x00, 0x00, 0x0A, 0x00, 0x1E, 0x30, 0x03,
-                                      0x00, 0x5A, 0x00, 0x0A, 0x20, 0x02, 0x30, 0x01, 0x00, 0x14, 0x00, 0x28, 0x7F};
     struct lent t = session();
     planned("P2", &t, "1201");
-    written("P2", &t, bytes, sizeof bytes);
+    written("P2", &t, session_tape, sizeof session_tape);
     t.tape_length = 26;
-    written("P2 in 26 bytes", &t, bytes, sizeof bytes);
+    written("P2 in 26 bytes", &t, session_tape, sizeof session_tape);
     t.tape_length = 25;
     write_refused("P2 in 25 bytes", &t, 10);
     t.labels[2] = 3;
@@ -453,11 +549,9 @@ static void rounds(void)
 /* P9 and P10: each exchange of two of the hours gives another plan or a refusal. In 200 ticks R is none of the hours. */
 static void runs(void)
 {
-    static const uint8_t bytes[20] = {0x11, 0x00, 0x64, 0x20, 0x01, 0x30, 0x02, 0x00, 0x00, 0x00,
-                                      0x32, 0x20, 0x02, 0x30, 0x00, 0x00, 0x2D, 0x00, 0x3C, 0x7F};
     struct lent t = p9();
     planned("P9", &t, "201");
-    written("P9", &t, bytes, sizeof bytes);
+    written("P9", &t, p9_tape, sizeof p9_tape);
     read_back("P9", &t);
     replied_to("P9", &t, "heard 2\n0 2\n1 0\n2 1\n", true);
     t.marks[1] = 1;
@@ -676,6 +770,119 @@ static void replies(void)
     end_group("replies");
 }
 
+/* The session for two days from every tick, and P9's run from every tick to its end. */
+static void players(void)
+{
+    for (uint16_t first = 0; first < 100; first++) {
+        played("P2's tape", session_tape, sizeof session_tape, first, 200, told_of_session);
+        struct hub_player last = played("P9's tape", p9_tape, sizeof p9_tape, first, 100u - first, told_of_p9);
+        check("P9's tape", "R after the last tick", last.tick == 100);
+        stays_finished("P9's tape", p9_tape, sizeof p9_tape, last.tick);
+    }
+    end_group("players");
+}
+
+/* Each change of the session's tape gives one that the writer cannot write. */
+static void tape_refusals(void)
+{
+    static const struct { const char *what; size_t at; uint8_t byte; } changes[] = {
+        {"neither ROUND nor RUN", 0, 0x40}, {"a run, in which no window goes over tick 0", 0, 0x11},
+        {"RECEIVER 2 first", 4, 2}, {"RECEIVER 1 twice", 18, 1},
+        {"row 64", 6, 64}, {"a row on both receivers", 6, 1}, {"a row twice on one receiver", 12, 0},
+        {"start and end equal", 10, 10}, {"end R in a round", 10, 100}, {"starts that do not rise", 14, 5},
+        {"windows that overlap", 10, 91}, {"windows that overlap after tick 0", 16, 11},
+        {"a LISTEN's byte wrong", 11, 0x40}, {"no STOP", 25, 0x7E}};
+    uint8_t bytes[27];
+    for (size_t i = 0; i < sizeof changes / sizeof *changes; i++) {
+        memcpy(bytes, session_tape, 26);
+        bytes[changes[i].at] = changes[i].byte;
+        start_refused(changes[i].what, bytes, 26, 0, 12);
+        start_refused(changes[i].what, bytes, 26, 65535, 12); /* 12 comes before 13 */
+    }
+    memcpy(bytes, session_tape, 26);
+    bytes[26] = 0x7F;
+    start_refused("a byte after STOP", bytes, 27, 0, 12);
+    for (size_t length = 0; length < 26; length++)
+        start_refused("a tape cut short", bytes, length, 0, 12);
+    bytes[6] = 63;
+    check("row 63", "accepted", hub_player_start(bytes, 26, 0).refusal == 0);
+    end_group("plan tapes");
+}
+
+static void tick_refusals(void)
+{
+    static const struct { uint16_t ticks; bool taken; } edges[] = {{0, false}, {1, false}, {2, true}, {43200, true}, {43201, false}, {65535, false}};
+    for (size_t i = 0; i < 2 * sizeof edges / sizeof *edges; i++) {
+        uint16_t ticks = edges[i / 2].ticks;
+        const uint8_t bytes[8] = {i % 2 ? 0x11 : 0x10, (uint8_t)(ticks >> 8), (uint8_t)(ticks & 255), 0x20, 1, 0x20, 2, 0x7F};
+        struct hub_started s = hub_player_start(bytes, 8, (uint16_t)(ticks - 1));
+        check_refusal("first tick R - 1", s.refusal, edges[i / 2].taken ? 0 : 12);
+        check("first tick R - 1", "the player's tick", s.player.tick == (edges[i / 2].taken ? ticks - 1 : 65535));
+        start_refused("first tick R", bytes, 8, ticks, edges[i / 2].taken ? 13 : 12);
+        start_refused("first tick 65,535", bytes, 8, 65535, edges[i / 2].taken ? 13 : 12);
+    }
+    end_group("first ticks");
+}
+
+/* A window of the last tick alone, which ends at R in a run and at 0 in a round. */
+static void play_last_tick(const char *what, bool run, uint16_t ticks)
+{
+    uint8_t high = (uint8_t)(ticks >> 8), low = (uint8_t)(ticks & 255);
+    struct told told = {0, 0, {7, run ? ticks : 0}, IDLE};
+    const uint8_t bytes[14] = {run ? 0x11 : 0x10, high, low, 0x20, 1, 0x30, 7, (uint8_t)((ticks - 1) >> 8), (uint8_t)((ticks - 1) & 255),
+                               run ? high : 0, run ? low : 0, 0x20, 2, 0x7F};
+    struct hub_started s = hub_player_start(bytes, sizeof bytes, (uint16_t)(ticks - 1));
+    check_refusal(what, s.refusal, 0);
+    stepped(what, &told, hub_player_step(bytes, sizeof bytes, s.player), run ? ticks : 0);
+}
+
+/* The longest tape, 64 LISTENs. */
+static void play_many(const char *what, bool run)
+{
+    uint8_t bytes[TAPE];
+    size_t length = tape_of_many(run, bytes);
+    check_refusal(what, hub_player_start(bytes, length, 0).refusal, 0);
+    for (int i = 0; i < ROWS; i++) {
+        bool second = run && i >= 50;
+        struct told told = {0, 0, {second ? -1 : i, i + 1}, {second ? i : -1, i + 1}};
+        stepped(what, &told, step(bytes, length, (uint16_t)i), (uint16_t)(i + 1));
+    }
+}
+
+static void player_limits(void)
+{
+    for (int run = 0; run < 2; run++) {
+        play_last_tick("the last of 2 ticks", run, 2);
+        play_last_tick("the last of 43,200 ticks", run, 43200);
+        play_many(run ? "64 LISTENs in a run" : "64 LISTENs in a round", run);
+    }
+    end_group("limits of plan tapes");
+}
+
+/* What the header says of bytes that are no plan tape. */
+static void other_bytes(void)
+{
+    static const struct told first = {0, 0, {0, 30}, IDLE}, both = {0, 0, {0, 30}, {1, 40}}, later = {0, 0, {3, 60}, {1, 40}}, none = {0, 0, IDLE, IDLE};
+    uint8_t bytes[26];
+    memcpy(bytes, session_tape, 26);
+    stays_finished("no bytes", bytes, 0, 0);
+    stays_finished("ROUND cut short", bytes, 2, 0);
+    stepped("ROUND alone", &none, step(bytes, 3, 25), 26);
+    stepped("a LISTEN cut short", &none, step(bytes, 10, 25), 26);
+    stepped("RECEIVER 2 cut short", &first, step(bytes, 18, 25), 26);
+    stepped("no STOP", &both, step(bytes, 25, 25), 26);
+    bytes[4] = 9, bytes[18] = 9;
+    stepped("other receivers", &both, step(bytes, 26, 25), 26);
+    bytes[14] = 20, bytes[16] = 60;
+    stepped("two windows over the tick", &later, step(bytes, 26, 25), 26);
+    bytes[16] = 100;
+    stepped("the last window ends at R", &both, step(bytes, 26, 25), 26);
+    bytes[3] = 0x21;
+    stepped("no RECEIVER", &none, step(bytes, 26, 99), 0);
+    stays_finished("tick R", bytes, 26, 100);
+    end_group("other bytes");
+}
+
 int main(void)
 {
     constants();
@@ -686,5 +893,10 @@ int main(void)
     all_refusals();
     limits();
     replies();
+    players();
+    tape_refusals();
+    tick_refusals();
+    player_limits();
+    other_bytes();
     return all_failures != 0;
 }

@@ -16,8 +16,8 @@ static unsigned char stack[DEPTH];
 static ucontext_t here, there;
 
 static uint16_t starts[64], ends[64];
-static uint8_t marks[64], labels[64], space[16384], tape[400], out[400];
-static size_t rows, tape_length;
+static uint8_t marks[64], labels[64], space[16384], tape[400], out[400], plan[400];
+static size_t rows, tape_length, plan_length;
 
 static void nothing(void) {}
 static void plan_round(void) { hub_plan_round(43200, starts, rows, ends, rows, marks, rows, labels, rows, space, sizeof space); }
@@ -26,6 +26,15 @@ static void write_round(void) { hub_write_plan_round(43200, starts, rows, ends, 
 static void write_run(void) { hub_write_plan_run(43200, 0, 43200, 0, 43200, starts, rows, ends, rows, marks, rows, labels, rows, out, sizeof out); }
 static void read_fleet(void) { hub_read_fleet(tape, tape_length, starts, 64, ends, 64, marks, 64); }
 static void reply(void) { hub_reply(tape, tape_length, out, sizeof out, space, sizeof space); }
+static void player_start(void) { hub_player_start(plan, plan_length, 0); }
+static void player_step(void) { hub_player_step(plan, plan_length, (struct hub_player){0}); }
+
+/* Plans the table and writes the plan tape; none where the table is refused. */
+static void make_plan_tape(void)
+{
+    plan_run();
+    plan_length = hub_write_plan_run(43200, 0, 43200, 0, 43200, starts, rows, ends, rows, marks, rows, labels, rows, plan, sizeof plan).count;
+}
 
 static size_t depth_of(void (*call)(void))
 {
@@ -64,7 +73,8 @@ int main(void)
 {
     static const struct { const char *name; void (*call)(void); } calls[] = {
         {"hub_plan_round", plan_round}, {"hub_plan_run", plan_run}, {"hub_write_plan_round", write_round},
-        {"hub_write_plan_run", write_run}, {"hub_read_fleet", read_fleet}, {"hub_reply", reply}};
+        {"hub_write_plan_run", write_run}, {"hub_read_fleet", read_fleet}, {"hub_reply", reply},
+        {"hub_player_start", player_start}, {"hub_player_step", player_step}};
     static const unsigned tables[3][3] = {{600, 900, 0}, {1, 40000, 1}, {600, 900, 2}};
     size_t base = depth_of(nothing);
     for (size_t c = 0; c < sizeof calls / sizeof *calls; c++) {
@@ -72,7 +82,7 @@ int main(void)
         for (size_t t = 0; t < 3; t++) {
             set_table(tables[t][0], tables[t][1], tables[t][2]);
             if (c >= 2)
-                plan_run(); /* labels for the writer */
+                make_plan_tape(); /* labels for the writer, a tape for the player */
             size_t depth = depth_of(calls[c].call) - base;
             most = depth > most ? depth : most;
         }

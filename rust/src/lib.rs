@@ -4,6 +4,7 @@
 //! addresses and lengths, and Rust's borrow rules see to it that the lists of one call do not overlap.
 
 pub mod first_free;
+pub mod player_port;
 pub mod port;
 pub mod tables;
 
@@ -19,7 +20,7 @@ pub const FLEET_TAPE_BYTES: usize = 400;
 /// The room that `reply` asks for; the longest text has 319 bytes.
 pub const REPLY_BYTES: usize = 400;
 
-/// Why a call is refused; the values are the numbers of paper 01.
+/// Why a call is refused; the values are the numbers of papers 01 and 02.
 #[derive(Clone, Copy, Debug, PartialEq, Eq)]
 #[repr(u8)]
 pub enum Refusal {
@@ -34,6 +35,8 @@ pub enum Refusal {
     NotPlan = 9,
     Buffer = 10,
     Form = 11,
+    Tape = 12,
+    FirstTick = 13,
 }
 
 impl Refusal {
@@ -53,7 +56,9 @@ impl Refusal {
             8 => Refusal::NoPlan,
             9 => Refusal::NotPlan,
             10 => Refusal::Buffer,
-            _ => Refusal::Form,
+            11 => Refusal::Form,
+            12 => Refusal::Tape,
+            _ => Refusal::FirstTick,
         }
     }
 }
@@ -73,6 +78,31 @@ pub struct Fleet {
     pub rows: usize,
 }
 
+/// A player of a plan tape: the tick of its next step. On a tape whose ticks are not above it the player is finished.
+#[derive(Clone, Copy, Debug, PartialEq, Eq)]
+pub struct Player {
+    pub tick: u16,
+}
+
+impl Player {
+    /// Finished on every tape: no tape has more ticks than 65,535.
+    pub const FINISHED: Player = Player { tick: u16::MAX };
+}
+
+/// What a receiver does at a tick; `until` is the window's end as taped.
+#[derive(Clone, Copy, Debug, PartialEq, Eq)]
+pub enum Receiver {
+    Idle,
+    Listening { row: u8, until: u16 },
+}
+
+/// What a step gives: what receivers 1 and 2 do at its tick, `None` where the player is finished, and the player of the next step.
+#[derive(Clone, Copy, Debug, PartialEq, Eq)]
+pub struct Stepped {
+    pub receivers: Option<[Receiver; 2]>,
+    pub player: Player,
+}
+
 mod c {
     #[repr(C)]
     pub struct HubAnswer {
@@ -90,6 +120,32 @@ mod c {
         pub p2: u16,
         pub q2: u16,
         pub rows: usize,
+    }
+
+    #[repr(C)]
+    pub struct HubPlayer {
+        pub tick: u16,
+    }
+
+    #[repr(C)]
+    pub struct HubReceiver {
+        pub listening: bool,
+        pub row: u8,
+        pub until: u16,
+    }
+
+    #[repr(C)]
+    pub struct HubStarted {
+        pub refusal: u8,
+        pub player: HubPlayer,
+    }
+
+    #[repr(C)]
+    pub struct HubStepped {
+        pub finished: bool,
+        pub receiver1: HubReceiver,
+        pub receiver2: HubReceiver,
+        pub player: HubPlayer,
     }
 
     extern "C" {
@@ -164,6 +220,8 @@ mod c {
             marks_length: usize,
         ) -> HubReport;
         pub fn hub_reply(tape: *const u8, tape_length: usize, out: *mut u8, out_length: usize, space: *mut u8, space_length: usize) -> usize;
+        pub fn hub_player_start(tape: *const u8, tape_length: usize, first: u16) -> HubStarted;
+        pub fn hub_player_step(tape: *const u8, tape_length: usize, player: HubPlayer) -> HubStepped;
     }
 }
 
@@ -288,4 +346,38 @@ pub fn reply<'a>(tape: &[u8], out: &'a mut [u8], space: &mut [u8]) -> &'a [u8] {
     // SAFETY: as in `plan`.
     let length = unsafe { c::hub_reply(tape.as_ptr(), tape.len(), out.as_mut_ptr(), out.len(), space.as_mut_ptr(), space.len()) };
     &out[..length]
+}
+
+/// Starts a player on a plan tape, at the tick `first`. Taken are exactly the tapes that `write_plan` can write for some table and labels (of a run, with hours 0 to
+/// ticks), else `Tape`; then `FirstTick` where `first` is not below the tape's ticks. The library gives a finished player with a refusal, which is `Player::FINISHED`.
+pub fn start(tape: &[u8], first: u16) -> Result<Player, Refusal> {
+    // SAFETY: the address comes with its slice's length, and nothing is written.
+    let started = unsafe { c::hub_player_start(tape.as_ptr(), tape.len(), first) };
+    match started.refusal {
+        0 => Ok(Player { tick: started.player.tick }),
+        number => Err(Refusal::of_number(number)),
+    }
+}
+
+fn receiver(told: c::HubReceiver) -> Receiver {
+    if told.listening {
+        Receiver::Listening {
+            row: told.row,
+            until: told.until,
+        }
+    } else {
+        Receiver::Idle
+    }
+}
+
+/// A step of a player: tells what each receiver does at the player's tick and moves on by one tick, from the last to 0 in a round. A finished player stays as it is. The
+/// steps of a player follow the tape on which it was started; on any other bytes, and with any player, a step does what include/hubplan.h says.
+pub fn step(tape: &[u8], player: Player) -> Stepped {
+    // SAFETY: as in `start`.
+    let stepped = unsafe { c::hub_player_step(tape.as_ptr(), tape.len(), c::HubPlayer { tick: player.tick }) };
+    let receivers = (!stepped.finished).then(|| [receiver(stepped.receiver1), receiver(stepped.receiver2)]);
+    Stepped {
+        receivers,
+        player: Player { tick: stepped.player.tick },
+    }
 }

@@ -166,6 +166,16 @@ pub fn long_arcs(seed: u64) -> Table {
     table
 }
 
+/// 64 windows over the whole day, and labels that give them to receivers 1 and 2 in turn: a window of 600 to 1,350 ticks at every 675th tick.
+pub fn in_turn(seed: u64) -> (Table, Vec<u8>) {
+    let mut sequence = Sequence::new(seed);
+    let mut table = Table::empty(Kind::Round, DAY as u16);
+    for i in 0..64 {
+        table.push_arc(i * 675, sequence.within(600, 1_350));
+    }
+    (table, [1, 2].repeat(32))
+}
+
 /// The benchmark's tables of 64 rows, with their names.
 pub fn benchmark_tables() -> Vec<(&'static str, Table)> {
     vec![

@@ -1,6 +1,7 @@
-//! The proved library against papers 01's rules written down independently (tests/papers), on fixed pseudo-random inputs, valid and damaged.
+//! The proved library against the papers' rules written down independently (tests/papers), on fixed pseudo-random inputs, valid and damaged.
 
 mod papers;
+mod player;
 
 use hubplan::tables::{benchmark_tables, long_arcs, Sequence, Table};
 use hubplan::{port, Kind, Refusal, FLEET_TAPE_BYTES, PLAN_TAPE_BYTES, REPLY_BYTES, SPACE_BYTES};

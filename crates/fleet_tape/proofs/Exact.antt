@@ -18,7 +18,8 @@ use Rattle.window.specs.declared.Kind.{Kind}
 use Rattle.refusals.specs.declared.Refusal.the-variants.{Accepted, Lists, Rows, Form}
 use Rattle.refusals.specs.Refusals.{numberOf}
 use Rattle.window.specs.declared.Row.{Row}
-use Rattle.fleet_tape.specs.Fleet.{fleetTape, Bytes, Fits, rowsOfLists, firstRows}
+use Rattle.tape.specs.Words.{Bytes}
+use Rattle.fleet_tape.specs.Fleet.{fleetTape, Fits, rowsOfLists, firstRows}
 use Rattle.window.specs.Rows.{startsOf, endsOf, marksOf}
 use Rattle.fleet_tape.specs.Form.{Fleet, fleet, hoursIn, fleetOf}
 use Rattle.fleet_tape.specs.Reading.{Reading, reading, refused, taken, judged, hasPlaces, fleetRead}

@@ -12,18 +12,19 @@ use Rattle.basics.proofs.Tests.{and-iff, eqb-iff}
 use Rattle.window.specs.declared.Kind.{Kind}
 use Rattle.window.specs.declared.Kind.the-variants.{Round, Run}
 use Rattle.refusals.specs.declared.Refusal.the-variants.{Accepted, Lists, Rows, Form}
-use Rattle.tape.specs.Commands.{ROUND, RUN, HOURS, operandBytes}
+use Rattle.tape.specs.Commands.{ROUND, RUN, HOURS, operandBytes, begins}
 use Rattle.fleet_tape.specs.declared.Report.{Report}
 use Rattle.fleet_tape.specs.declared.Scanned.the-variants.{Count, Broken}
 use Rattle.window.specs.declared.Row.{Row}
 use Rattle.window.specs.Rows.{startsOf, endsOf, marksOf}
-use Rattle.fleet_tape.specs.Form.{begins, wordAt, hoursOf, rowsIn, stated, fleetOf}
+use Rattle.fleet_tape.specs.Form.{hoursOf, rowsIn, stated, fleetOf}
 use Rattle.window.specs.Hours.{noHours}
 use Rattle.fleet_tape.specs.Scan.{counted, listed}
 use Rattle.fleet_tape.specs.Demand.{Places}
 use Rattle.fleet_tape.specs.Reading.{Reading, reading, refused, taken, judged, hasPlaces, fleetRead}
 use Rattle.basics.specs.Lists.{front}
-use Rattle.fleet_tape.proofs.Heads.{begins-iff, begins-at}
+use Rattle.tape.specs.Words.{wordAt}
+use Rattle.tape.proofs.Heads.{begins-iff, begins-at}
 
 -- ---- the rows
 

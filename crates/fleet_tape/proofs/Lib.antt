@@ -1,5 +1,4 @@
 -- Laws of the form of a fleet tape, and the theorems about the reader.
-pub mod Heads
 pub mod Rows
 pub mod Judged
 pub mod Parsed

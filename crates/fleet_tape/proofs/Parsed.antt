@@ -1,26 +1,24 @@
 -- The form that is read from bytes is the fleet tape: `fleetOf` of a fleet tape gives back what the tape states, and a tape of which `fleetOf` gives something is the fleet tape of it.
 use Prim.Native.Nat.{ℕ, zero, suc, _+_, _≤_, _<_}
-use mathlib.Core.Path.{_≡_, refl, sym, ap, _∙_}
+use mathlib.Core.Path.{_≡_, refl, ap, _∙_}
 use mathlib.Core.Logic.{⊎-elim}
 use mathlib.Core.Bool.{Bool, true, false, cond, _&&_, and-false}
 use mathlib.Core.List.{List, [], _∷_, _++_}
 use mathlib.Core.Option.{Option, none, some}
-use native.Mathlib.Nat.{add-zero, add-suc, suc-add}
 use native.Mathlib.Omega.{arith}
 use lib.Dec.{eqb}
-use lib.ListN.{length, getD, drop}
-use lib.Seq.{drop-cons, getD-drop}
+use lib.ListN.{getD, drop}
 use Rattle.basics.proofs.Tests.{and-iff, or-iff, eqb-iff}
 use Rattle.window.specs.declared.Kind.{Kind}
 use Rattle.window.specs.declared.Kind.the-variants.{Round, Run}
-use Rattle.tape.specs.Commands.{ROUND, RUN, WINDOW, MUST, HOURS, STOP, operandBytes}
-use Rattle.tape.specs.Words.{joined, highByte, lowByte}
-use Rattle.tape.proofs.Joined.{joined-word}
+use Rattle.tape.specs.Commands.{ROUND, RUN, WINDOW, MUST, HOURS, STOP, operandBytes, begins}
+use Rattle.tape.specs.Words.{joined, highByte, lowByte, wordAt, Bytes}
+use Rattle.tape.proofs.Joined.{joined-word, high-joined, low-joined, joined-16}
+use Rattle.tape.proofs.Heads.{begins-iff, bytes-drop, spread}
 use Rattle.window.specs.declared.Row.{Row}
-use Rattle.fleet_tape.specs.Fleet.{rowCommand, rowsTape, hoursTape, fleetTape, Bytes, RowsFit, HoursFit, Fits}
+use Rattle.fleet_tape.specs.Fleet.{rowCommand, rowsTape, hoursTape, fleetTape, RowsFit, HoursFit, Fits}
 use Rattle.window.specs.Hours.{hoursFrom, noHours}
-use Rattle.fleet_tape.specs.Form.{isRow, markOf, put, rowsIn, Fleet, fleet, stated, begins, wordAt, hoursOf, hoursIn, fleetOf}
-use Rattle.fleet_tape.proofs.Heads.{begins-iff}
+use Rattle.fleet_tape.specs.Form.{isRow, markOf, put, rowsIn, Fleet, fleet, stated, hoursOf, hoursIn, fleetOf}
 
 -- ---- from what is stated to the tape and back
 
@@ -60,19 +58,6 @@ fleet-back Round R hours rows f = round-back R rows (f .rows-fit) hours
 fleet-back Run R hours rows f = let h = f .hours-fit in rw (h .pairs) (run-back R rows (f .rows-fit) (h .p1) (h .q1) (h .p2) (h .q2))
 
 -- ---- from the tape to what it states and back
-
-bytes-drop : (n : ℕ) (s : List ℕ) → Bytes s → Bytes (drop n s)
-bytes-drop n s h i = rw (getD-drop n s i 0) (h (n + i))
-
--- the two bytes of the number that two bytes are
-high-joined : (a b : ℕ) → b < 256 → a ≡ highByte (joined a b)
-high-joined a b h = omega arith
-
-low-joined : (a b : ℕ) → b < 256 → b ≡ lowByte (joined a b)
-low-joined a b h = omega arith
-
-joined-16 : (a b : ℕ) → a < 256 → b < 256 → joined a b < 65536
-joined-16 a b h k = omega arith
 
 -- a row's command by its mark
 record Marked (x : ℕ) : Type 0 where
@@ -121,17 +106,6 @@ rows-known (x ∷ a ∷ []) h = tt
 rows-known (x ∷ a ∷ b ∷ []) h = tt
 rows-known (x ∷ a ∷ b ∷ c ∷ []) h = tt
 rows-known (x ∷ a ∷ b ∷ c ∷ d ∷ rest) h = one-row x a b c d rest h (isRow x) refl (rowsIn rest) (rows-known rest (λ i. h (suc (suc (suc (suc (suc i)))))))
-
--- n bytes from place i on
-abbrev bytesFrom : ℕ → ℕ → List ℕ → List ℕ
-bytesFrom i zero s = []
-bytesFrom i (suc n) s = getD s i 0 ∷ bytesFrom (suc i) n s
-
-spread : (s : List ℕ) (i n : ℕ) → i + n ≤ length s → drop i s ≡ bytesFrom i n s ++ drop (i + n) s
-spread s i zero h = rw (add-zero i)
-spread s i (suc n) h =
-    drop-cons s i 0 (omega arith)
-    ∙ ap (λ (t : List ℕ). getD s i 0 ∷ t) (spread s (suc i) n (omega arith) ∙ ap (λ (k : ℕ). bytesFrom (suc i) n s ++ drop k s) (suc-add i n ∙ sym (add-suc i n)))
 
 -- what is known of a tape of which something was read
 pub record FleetStands (s : List ℕ) (f : Fleet) : Type 0 where

@@ -13,14 +13,15 @@ use lib.Dec.{eqb}
 use lib.ListN.{length, getD, drop, set, length-drop, length-map}
 use lib.Seq.{drop-drop, sets, sets-eq}
 use Rattle.basics.proofs.Tests.{and-iff, or-iff, eqb-iff}
-use Rattle.tape.specs.Commands.{WINDOW, MUST, STOP, operandBytes}
+use Rattle.tape.specs.Commands.{WINDOW, MUST, STOP, operandBytes, begins, stopLast}
+use Rattle.tape.specs.Words.{wordAt}
 use Rattle.fleet_tape.specs.declared.Scanned.{Scanned}
 use Rattle.fleet_tape.specs.declared.Scanned.the-variants.{Count, Broken}
 use Rattle.window.specs.declared.Row.{Row}
-use Rattle.fleet_tape.specs.Form.{begins, wordAt, isRow, markOf, put, rowsIn}
-use Rattle.fleet_tape.specs.Scan.{rowFirst, stopLast, counted, listed}
+use Rattle.fleet_tape.specs.Form.{isRow, markOf, put, rowsIn}
+use Rattle.fleet_tape.specs.Scan.{rowFirst, counted, listed}
 use Rattle.basics.specs.Lists.{front}
-use Rattle.fleet_tape.proofs.Heads.{begins-iff, first-at, word-at}
+use Rattle.tape.proofs.Heads.{begins-iff, first-at, word-at}
 
 -- a row stands first: its command and its operands are there
 record RowFirst (s : List ℕ) : Type 0 where

@@ -2,7 +2,7 @@
 use Prim.Native.Nat.{ℕ, zero, suc, _≤_, _<_}
 use mathlib.Core.Path.{_≡_}
 use mathlib.Core.List.{List, [], _∷_, _++_}
-use lib.ListN.{getD, take}
+use lib.ListN.{take}
 use Rattle.window.specs.declared.Kind.{Kind}
 use Rattle.window.specs.declared.Kind.the-variants.{Round, Run}
 use Rattle.window.specs.declared.Row.{Row}
@@ -40,10 +40,6 @@ unfolding rowsTape
 fleetTape kind R hours rows = headTape kind R hours ++ rowsTape rows ++ (STOP ∷ [])
 
 -- ---- what a fleet tape can state
-
--- a tape is a list of bytes
-abbrev pub Bytes : List ℕ → Type 0
-Bytes s = (i : ℕ) → getD s i 0 < 256
 
 -- "start (16), end (16)", and a mark that WINDOW or MUST gives
 pub record RowFits (row : Row) : Type 0 where

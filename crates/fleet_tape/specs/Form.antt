@@ -1,16 +1,15 @@
 -- Believed: The form of a fleet tape, read from its bytes: what a tape of the form states, and nothing of any other bytes.
-use Prim.Native.Nat.{ℕ, _+_}
+use Prim.Native.Nat.{ℕ}
 use mathlib.Core.Bool.{Bool, cond, _&&_, _||_}
 use mathlib.Core.List.{List, [], _∷_}
 use mathlib.Core.Option.{Option, none, some, Option·map}
-use lib.Dec.{ltb, eqb}
-use lib.ListN.{length, getD, drop}
+use lib.Dec.{eqb}
 use Rattle.window.specs.declared.Kind.{Kind}
 use Rattle.window.specs.declared.Kind.the-variants.{Round, Run}
 use Rattle.window.specs.Rows.{row}
 use Rattle.window.specs.Hours.{hoursFrom, noHours}
-use Rattle.tape.specs.Commands.{ROUND, RUN, WINDOW, MUST, HOURS, STOP, operandBytes}
-use Rattle.tape.specs.Words.{joined}
+use Rattle.tape.specs.Commands.{ROUND, RUN, WINDOW, MUST, HOURS, STOP, operandBytes, begins, after}
+use Rattle.tape.specs.Words.{joined, wordAt}
 use Rattle.window.specs.declared.Row.{Row}
 
 -- ---- rows
@@ -52,19 +51,6 @@ fleet kind R hours rows = record { kind = kind; ticks = R; hours = hours; rows =
 abbrev pub stated : Kind → ℕ → List (List ℕ) → Option (List Row) → Option Fleet
 stated kind R hours none = none
 stated kind R hours (some rows) = some (fleet kind R hours rows)
-
--- the command stands first, and all bytes of its operands follow
-unfoldable pub begins : ℕ → List ℕ → Bool
-unfolding operandBytes
-begins command s = ltb (operandBytes command) (length s) && eqb (getD s 0 0) command
-
--- what follows a command with its operands
-abbrev pub after : ℕ → List ℕ → List ℕ
-after command s = drop (1 + operandBytes command) s
-
--- the 16-bit operand at place i, "the high byte first"
-abbrev pub wordAt : List ℕ → ℕ → ℕ
-wordAt s i = joined (getD s i 0) (getD s (i + 1) 0)
 
 -- "HOURS: p1, q1, p2, q2 (16 each)"
 abbrev pub hoursOf : List ℕ → List (List ℕ)

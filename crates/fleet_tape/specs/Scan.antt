@@ -1,26 +1,21 @@
 -- Inner: The scan of a tape's rows and the filling of the lists: what the reader's inner functions promise.
-use Prim.Native.Nat.{ℕ, _≤_, _<_}
+use Prim.Native.Nat.{ℕ, _≤_}
 use mathlib.Core.Path.{_≡_}
-use mathlib.Core.Bool.{Bool, _&&_, _||_}
+use mathlib.Core.Bool.{Bool, _||_}
 use mathlib.Core.List.{List, []}
 use mathlib.Core.Option.{Option, none, some}
-use lib.Dec.{eqb}
 use lib.ListN.{length, drop}
 use Rattle.fleet_tape.specs.Demand.{Places}
 use Rattle.basics.specs.Limits.{maxRows}
-use Rattle.tape.specs.Commands.{WINDOW, MUST, STOP}
+use Rattle.tape.specs.Commands.{WINDOW, MUST, begins}
 use Rattle.fleet_tape.specs.declared.Scanned.{Scanned}
 use Rattle.fleet_tape.specs.declared.Scanned.the-variants.{Count, Broken}
 use Rattle.window.specs.declared.Row.{Row}
-use Rattle.fleet_tape.specs.Form.{begins, rowsIn}
+use Rattle.fleet_tape.specs.Form.{rowsIn}
 
 -- a row stands first
 abbrev pub rowFirst : List ℕ → Bool
 rowFirst s = begins WINDOW s || begins MUST s
-
--- STOP is all that is left
-abbrev pub stopLast : List ℕ → Bool
-stopLast s = begins STOP s && eqb (length s) 1
 
 -- how many rows were read, if the form was right to the end
 abbrev pub counted : Option (List Row) → Scanned
@@ -30,10 +25,6 @@ counted (some rows) = Count (length rows)
 abbrev pub listed : Option (List Row) → List Row
 listed none = []
 listed (some rows) = rows
-
--- the place lies on the tape
-pub record Inside (tape : List ℕ) (at : ℕ) : Type 0 where
-  pub inside : at < length tape
 
 -- so many rows stand at a place of the tape, and the lists have places for them
 pub record Fillable (tape : List ℕ) (from rows : ℕ) (starts ends marks : List ℕ) : Type 0 where

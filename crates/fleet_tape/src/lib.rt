@@ -2,9 +2,10 @@
 ghost use mathlib.Core.Path.{_≡_};
 ghost use Prim.Native.Nat.{_+_};
 ghost use lib.ListN.{drop};
+ghost use Rattle.tape.specs.Words.{Inside};
 ghost use Rattle.window.specs.Rows.{startsOf, endsOf, marksOf};
-ghost use Rattle.fleet_tape.specs.Form.{begins, wordAt, hoursOf, markOf, rowsIn, stated};
-ghost use Rattle.fleet_tape.specs.Scan.{rowFirst, stopLast, counted, listed, Inside, Fillable};
+ghost use Rattle.fleet_tape.specs.Form.{hoursOf, markOf, rowsIn, stated};
+ghost use Rattle.fleet_tape.specs.Scan.{rowFirst, counted, listed, Fillable};
 ghost use Rattle.fleet_tape.specs.Demand.{Places, Demand2};
 ghost use Rattle.fleet_tape.specs.Reading.{hasPlaces, refused, reading, judged, fleetRead};
 ghost use Rattle.basics.specs.Lists.{front};
@@ -14,10 +15,11 @@ use tape::HOURS;
 use tape::MUST;
 use tape::ROUND;
 use tape::RUN;
-use tape::STOP;
 use tape::WINDOW;
-use tape::join_bytes;
+use tape::begins;
+use tape::is_stop_at;
 use tape::operand_bytes;
+use tape::word_at;
 use window::Kind;
 
 // What a call reports: "kind, R, hours (all 0 in a round) and rows".
@@ -75,19 +77,6 @@ fn has_places(starts: usize, ends: usize, marks: usize) -> bool
     marks == MAX_ROWS
 }
 
-// Whether a command stands at a place, and all bytes of its operands follow.
-fn begins(tape: &[u8], at: usize, command: u8) -> bool
-    ensures { λ r. ⌜ r ≡ begins command (drop at (now (tape .entry))) ⌝ }
-{
-    if tape.len() <= at {
-        return false;
-    }
-    if tape.len() - at <= operand_bytes(command) {
-        return false;
-    }
-    tape[at] == command
-}
-
 // Whether a row stands at a place.
 fn is_row_at(tape: &[u8], at: usize) -> bool
     ensures { λ r. ⌜ r ≡ rowFirst (drop at (now (tape .entry))) ⌝ }
@@ -96,16 +85,6 @@ fn is_row_at(tape: &[u8], at: usize) -> bool
         return true;
     }
     begins(tape, at, MUST)
-}
-
-// Whether STOP stands at a place and is the last byte.
-fn is_stop_at(tape: &[u8], at: usize) -> bool
-    ensures { λ r. ⌜ r ≡ stopLast (drop at (now (tape .entry))) ⌝ }
-{
-    if begins(tape, at, STOP) {
-        return tape.len() - at == 1;
-    }
-    false
 }
 
 // The rows from a place to the end of the tape, counted; nothing is written.
@@ -122,14 +101,6 @@ fn count_rows(tape: &[u8], from: usize) -> Scanned
         return Scanned::Count(rows);
     }
     Scanned::Broken
-}
-
-// The 16-bit operand at a place.
-fn word_at(tape: &[u8], at: usize) -> u16
-    requires { ⌜ Inside (now tape) (at + 1) ⌝ }
-    ensures { λ r. ⌜ r ≡ wordAt (now (tape .entry)) at ⌝ }
-{
-    join_bytes(tape[at], tape[at + 1])
 }
 
 // The operands of HOURS at a place.

@@ -1,4 +1,4 @@
--- Believed: How an answer, a report and the receivers' open hours are handed over to C: by numbers alone.
+-- Believed: How an answer, a report, the receivers' open hours, a player and what it tells are handed over to C: by numbers alone.
 use mathlib.Core.Bool.{Bool, true, false}
 use Prim.Native.Nat.{ℕ}
 use mathlib.Core.List.{List}
@@ -11,10 +11,19 @@ use Rattle.plan_tape.specs.Written.{Written}
 use Rattle.fleet_tape.specs.Reading.{Reading}
 use Rattle.window.specs.Hours.{hour}
 use Rattle.fleet_tape.specs.declared.Report.{Report}
+use Rattle.player.specs.declared.Receiver.{Receiver}
+use Rattle.player.specs.declared.Receiver.the-variants.{Idle, Listening}
+use Rattle.player.specs.declared.Player.{Player}
+use Rattle.player.specs.declared.Started.{Started}
+use Rattle.player.specs.declared.Stepped.{Stepped}
 use Rattle.hub_c.specs.declared.HubAnswer.{HubAnswer}
+use Rattle.hub_c.specs.declared.HubPlayer.{HubPlayer}
+use Rattle.hub_c.specs.declared.HubStarted.{HubStarted}
+use Rattle.hub_c.specs.declared.HubReceiver.{HubReceiver}
+use Rattle.hub_c.specs.declared.HubStepped.{HubStepped}
 use Rattle.hub_c.specs.declared.HubReport.{HubReport}
 
--- the refusal by its number in paper 01, 0 for accepted, and the count
+-- the refusal by its number in the papers, 0 for accepted, and the count
 abbrev pub handed : Answer → HubAnswer
 handed answer = record { refusal = numberOf (answer .refusal); count = answer .count }
 
@@ -71,3 +80,25 @@ readGave report starts ends marks = record { report = report; starts = starts; e
 
 abbrev pub handedRead : Reading → HubRead
 handedRead r = readGave (handedReport (r .report)) (r .starts) (r .ends) (r .marks)
+
+-- ---- the player
+
+abbrev pub handedPlayer : Player → HubPlayer
+handedPlayer player = record { tick = player .tick }
+
+abbrev pub handedStarted : Started → HubStarted
+handedStarted s = record { refusal = numberOf (s .refusal); player = handedPlayer (s .player) }
+
+-- idle, or listening to a row until a tick
+abbrev pub handedReceiver : Receiver → HubReceiver
+handedReceiver Idle = record { listening = false; row = 0; until = 0 }
+handedReceiver (Listening row end) = record { listening = true; row = row; until = end }
+
+abbrev pub handedStepped : Stepped → HubStepped
+handedStepped s =
+    record {
+      finished = s .state .finished;
+      receiver1 = handedReceiver (s .state .receiver1);
+      receiver2 = handedReceiver (s .state .receiver2);
+      player = handedPlayer (s .player);
+    }

@@ -7,15 +7,18 @@ ghost use Rattle.table.specs.Tables.{settingOf, table};
 ghost use Rattle.table.specs.Planned.{planCall};
 ghost use Rattle.plan_tape.specs.Written.{written};
 ghost use Rattle.fleet_tape.specs.Reading.{fleetRead};
+ghost use Rattle.player.specs.Played.{playerAt, stepped, started};
 ghost use Rattle.reply.specs.Replied.{replying, replied};
-ghost use Rattle.hub_c.specs.Handed.{handed, isRun, handedReport, planGave, handedPlan, tapeGave, handedTape, readGave, handedRead};
+ghost use Rattle.hub_c.specs.Handed.{handed, isRun, handedReport, planGave, handedPlan, tapeGave, handedTape, readGave, handedRead, handedPlayer, handedReceiver, handedStarted, handedStepped};
 ghost use Rattle.window.specs.Hours.{hoursFrom, noHours};
 use fleet_tape::Report;
+use player::Player;
+use player::Receiver;
 use refusals::Answer;
 use table::Setting;
 use window::Kind;
 
-// What a call reports: the refusal's number in paper 01, 0 for accepted, and the count, 0 on a refusal.
+// What a call reports: the refusal's number in the papers, 0 for accepted, and the count, 0 on a refusal.
 #[repr(C)]
 pub struct HubAnswer {
     pub refusal: u8,
@@ -33,6 +36,36 @@ pub struct HubReport {
     pub p2: u16,
     pub q2: u16,
     pub rows: usize,
+}
+
+// A player: the tick of its next step.
+#[repr(C)]
+pub struct HubPlayer {
+    pub tick: u16,
+}
+
+// What a start of a player gives: the refusal's number, and the player, which is finished on a refusal.
+#[repr(C)]
+pub struct HubStarted {
+    pub refusal: u8,
+    pub player: HubPlayer,
+}
+
+// What a receiver does at a tick: whether it listens, to which row and until which tick, both 0 where it is idle.
+#[repr(C)]
+pub struct HubReceiver {
+    pub listening: bool,
+    pub row: u8,
+    pub until: u16,
+}
+
+// What a step of a player gives: that the player is finished, or what each receiver does, and the player that has moved on.
+#[repr(C)]
+pub struct HubStepped {
+    pub finished: bool,
+    pub receiver1: HubReceiver,
+    pub receiver2: HubReceiver,
+    pub player: HubPlayer,
 }
 
 // An answer by its numbers.
@@ -211,4 +244,64 @@ pub extern "C" fn hub_reply(tape: &[u8], out: &mut [u8], space: &mut [u8]) -> us
     ensures { λ r. ⌜ replying r (now (out .exit)) (now (space .exit)) ≡ replied (now (tape .entry)) (now (out .entry)) (now (space .entry)) ⌝ }
 {
     reply::reply(tape, out, space)
+}
+
+// A player by its number.
+fn hand_over_player(player: Player) -> HubPlayer
+    ensures { λ r. ⌜ r ≡ handedPlayer player ⌝ }
+{
+    HubPlayer { tick: player.tick }
+}
+
+// What a receiver does, by numbers.
+fn hand_over_receiver(receiver: Receiver) -> HubReceiver
+    ensures { λ r. ⌜ r ≡ handedReceiver receiver ⌝ }
+{
+    match receiver {
+        Receiver::Idle => HubReceiver {
+            listening: false,
+            row: 0,
+            until: 0,
+        },
+        Receiver::Listening { row, until } => HubReceiver {
+            listening: true,
+            row,
+            until,
+        },
+    }
+}
+
+// Starts a player on a plan tape at a first tick.
+#[no_mangle]
+pub extern "C" fn hub_player_start(tape: &[u8], first: u16) -> HubStarted
+    ensures { λ r. ⌜ r ≡ handedStarted (started (now (tape .entry)) first) ⌝ }
+{
+    let begun = player::start(tape, first);
+    let refusal = begun.refusal;
+    let player = hand_over_player(begun.player);
+    HubStarted {
+        refusal: refusals::number(refusal),
+        player,
+    }
+}
+
+// A step of a player on a plan tape: it tells for the player's tick and then moves on.
+#[no_mangle]
+pub extern "C" fn hub_player_step(tape: &[u8], player: HubPlayer) -> HubStepped
+    ensures { λ r. ⌜ r ≡ handedStepped (stepped (now (tape .entry)) (playerAt (player .tick))) ⌝ }
+{
+    let from = Player { tick: player.tick };
+    let step = player::step(tape, from);
+    let state = step.state;
+    let first = state.receiver1;
+    let second = state.receiver2;
+    let receiver1 = hand_over_receiver(first);
+    let receiver2 = hand_over_receiver(second);
+    let moved = hand_over_player(step.player);
+    HubStepped {
+        finished: state.finished,
+        receiver1,
+        receiver2,
+        player: moved,
+    }
 }

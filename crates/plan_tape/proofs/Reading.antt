@@ -1,125 +1,134 @@
 -- A plan tape states exactly its plan: from its bytes alone one reads the kind, R and, for each receiver, the rows with their windows; a row stands under a receiver exactly if its label is that receiver.
-use Prim.Native.Nat.{ℕ, zero, suc, _+_, _≤_, _<_}
-use mathlib.Core.Path.{_≡_, refl}
+use Prim.Native.Nat.{ℕ, _≤_, _<_}
+use mathlib.Core.Path.{_≡_, refl, ap, _∙_}
 use mathlib.Core.Logic.{_≢_, _↔_}
-use mathlib.Core.Bool.{cond}
 use mathlib.Core.List.{List, [], _∷_, _++_, map, List·Memᴰ, Memᴰ·map, Memᴰ·of-map, Memᴰ·cast}
 use native.Mathlib.Decide.{decLt}
 use native.Mathlib.Omega.{arith}
 use borrow.Author.Tests.{ne-eqb}
-use lib.Dec.{eqb}
-use lib.ListN.{length, drop, List·getD-eq-default}
+use lib.ListN.{length, List·getD-eq-default}
 use Rattle.basics.specs.Lists.{at}
 use Rattle.window.specs.declared.Kind.{Kind}
 use Rattle.window.specs.declared.Kind.the-variants.{Round, Run}
-use Rattle.tape.specs.Commands.{ROUND, RECEIVER, LISTEN, STOP}
-use Rattle.tape.specs.Words.{joined}
+use Rattle.tape.specs.Commands.{ROUND, RUN, RECEIVER, LISTEN, STOP, operandBytes}
+use Rattle.tape.specs.Words.{word}
 use Rattle.tape.proofs.Joined.{joined-word}
-use Rattle.plan_tape.specs.PlanTapes.{rowsOf, kindCommand, listens, planTape}
+use Rattle.tape.proofs.Heads.{fits-at}
+use Rattle.plan_tape.specs.PlanTapes.{rowsOf, listen, listens, kindPart, planTape}
+use Rattle.plan_tape.specs.Stated.{Listen, listenOf, listensIn, afterListens, partIn, afterPart, kindIn, ticksAt, afterHead, Stated, stated}
 use Rattle.plan_tape.proofs.Order.{rows-member, member-rows}
-use Rattle.plan_tape.proofs.Length.{listens-length, tape-length, listens-heard}
 
--- ---- reading a tape, by its bytes alone
+-- ---- the bytes that state something, in the form of a plan tape
 
--- a LISTEN as it is read
-pub record Listen : Type 0 where
-  pub row : ℕ
-  pub start : ℕ
-  pub end : ℕ
+unfoldable pub listenBytes : List Listen → List ℕ
+listenBytes [] = []
+listenBytes (w ∷ ws) = (LISTEN ∷ w .row ∷ (word (w .start) ++ word (w .end))) ++ listenBytes ws
 
--- what is read of a plan tape: kind, R and the LISTENs of receivers 1 and 2
-pub record Reading : Type 0 where
-  pub kind : Kind
-  pub ticks : ℕ
-  pub first : List Listen
-  pub second : List Listen
+abbrev pub partBytes : ℕ → List Listen → List ℕ
+partBytes receiver ws = RECEIVER ∷ receiver ∷ listenBytes ws
 
-listenAt : List ℕ → Listen
-listenAt bytes = record { row = at bytes 1; start = joined (at bytes 2) (at bytes 3); end = joined (at bytes 4) (at bytes 5) }
+abbrev pub bytesOf : Stated → List ℕ
+bytesOf s = kindPart (s .kind) (s .ticks) ++ (partBytes 1 (s .first) ++ (partBytes 2 (s .second) ++ (STOP ∷ [])))
 
--- the LISTENs with which the bytes begin, at most n of them
-listensIn : ℕ → List ℕ → List Listen
-listensIn zero bytes = []
-listensIn (suc n) bytes = cond (eqb (at bytes 0) LISTEN) (listenAt bytes ∷ listensIn n (drop 6 bytes)) []
+-- ---- they state it
 
--- the bytes after them
-afterListens : ℕ → List ℕ → List ℕ
-afterListens zero bytes = bytes
-afterListens (suc n) bytes = cond (eqb (at bytes 0) LISTEN) (afterListens n (drop 6 bytes)) bytes
+-- bytes that begin with another command have no LISTEN in front
+none-read : (rest : List ℕ) → at rest 0 ≢ LISTEN → (listensIn rest ≡ []) × (afterListens rest ≡ rest)
+unfolding listensIn afterListens
+none-read [] n = (refl, refl)
+none-read (x ∷ []) n = (refl, refl)
+none-read (x ∷ y ∷ []) n = (refl, refl)
+none-read (x ∷ y ∷ a ∷ []) n = (refl, refl)
+none-read (x ∷ y ∷ a ∷ b ∷ []) n = (refl, refl)
+none-read (x ∷ y ∷ a ∷ b ∷ c ∷ []) n = (refl, refl)
+none-read (x ∷ y ∷ a ∷ b ∷ c ∷ d ∷ l) n = rw (ne-eqb x LISTEN n) (refl, refl)
 
-kindOf : ℕ → Kind
-kindOf byte = cond (eqb byte ROUND) Round Run
+-- what is read and what is passed where such bytes follow
+module _ (rest : List ℕ) (other : at rest 0 ≢ LISTEN) where
+  listens-read : (ws : List Listen) → listensIn (listenBytes ws ++ rest) ≡ ws
+  unfolding listensIn listenBytes
+  listens-read [] = none-read rest other .0
+  listens-read (w ∷ ws) = rw (joined-word (w .start), joined-word (w .end)) (ap (λ (l : List Listen). w ∷ l) (listens-read ws))
 
-pub read : List ℕ → Reading
-read tape =
-    record {
-      kind = kindOf (at tape 0);
-      ticks = joined (at tape 1) (at tape 2);
-      first = listensIn (length tape) (drop 5 tape);
-      second = listensIn (length tape) (drop 2 (afterListens (length tape) (drop 5 tape)));
-    }
+  listens-passed : (ws : List Listen) → afterListens (listenBytes ws ++ rest) ≡ rest
+  unfolding afterListens listenBytes
+  listens-passed [] = none-read rest other .1
+  listens-passed (w ∷ ws) = listens-passed ws
 
--- ---- what is read of a plan's tape
+  module _ (receiver : ℕ) (ws : List Listen) where
+    part-read : partIn (partBytes receiver ws ++ rest) ≡ ws
+    unfolding partIn operandBytes
+    part-read = rw (fits-at (partBytes receiver ws ++ rest) 0 RECEIVER (omega arith)) (listens-read ws)
 
-kind-read : (kind : Kind) → kindOf (kindCommand kind) ≡ kind
-unfolding kindOf
-kind-read Round = refl
-kind-read Run = refl
+    pub part-passed : afterPart (partBytes receiver ws ++ rest) ≡ rest
+    unfolding afterPart operandBytes
+    part-passed = rw (fits-at (partBytes receiver ws ++ rest) 0 RECEIVER (omega arith)) (listens-passed ws)
+
+module _ (R : ℕ) (rest : List ℕ) where
+  kind-read : (kind : Kind) → kindIn (kindPart kind R ++ rest) ≡ kind
+  unfolding kindIn operandBytes
+  kind-read Round = rw (fits-at (kindPart Round R ++ rest) 0 RUN (omega arith)) refl
+  kind-read Run = rw (fits-at (kindPart Run R ++ rest) 0 RUN (omega arith)) refl
+
+  ticks-read : (kind : Kind) → ticksAt (kindPart kind R ++ rest) ≡ R
+  unfolding ticksAt operandBytes
+  ticks-read Round = rw (fits-at (kindPart Round R ++ rest) 0 ROUND (omega arith)) (joined-word R)
+  ticks-read Run = rw (fits-at (kindPart Run R ++ rest) 0 ROUND (omega arith), fits-at (kindPart Run R ++ rest) 0 RUN (omega arith)) (joined-word R)
+
+  pub head-passed : (kind : Kind) → afterHead (kindPart kind R ++ rest) ≡ rest
+  unfolding afterHead operandBytes
+  head-passed Round = rw (kind-read Round) refl
+  head-passed Run = rw (kind-read Run) refl
+
+pub bytes-read : (s : Stated) → stated (bytesOf s) ≡ s
+unfolding stated
+bytes-read s =
+    let end = STOP ∷ [] in
+    let middle = partBytes 2 (s .second) ++ end in
+    let rest = partBytes 1 (s .first) ++ middle in
+    let passed = head-passed (s .ticks) rest (s .kind) in
+    let kind = kind-read (s .ticks) rest (s .kind) in
+    let ticks = ticks-read (s .ticks) rest (s .kind) in
+    let first = ap partIn passed ∙ part-read middle (λ e. omega arith) 1 (s .first) in
+    let second = ap (λ (l : List ℕ). partIn (afterPart l)) passed ∙ ap partIn (part-passed middle (λ e. omega arith) 1 (s .first)) ∙ part-read end (λ e. omega arith) 2 (s .second) in
+    λ i. record { kind = kind i; ticks = ticks i; first = first i; second = second i }
+
+-- ---- what a plan's tape states
 
 module _ (starts ends : List ℕ) where
-  window : ℕ → Listen
-  window i = record { row = i; start = at starts i; end = at ends i }
+  abbrev pub window : ℕ → Listen
+  window i = listenOf i (at starts i) (at ends i)
 
-  -- the LISTENs of some rows, with bytes behind them that begin with another command
-  module _ (rest : List ℕ) (other : at rest 0 ≢ LISTEN) where
-    listens-read : (rows : List ℕ) (n : ℕ) → length rows ≤ n → listensIn n (listens starts ends rows ++ rest) ≡ map window rows
-    unfolding listens listensIn listenAt window
-    listens-read [] zero h = refl
-    listens-read [] (suc n) h = rw (ne-eqb (at rest 0) LISTEN other) refl
-    listens-read (i ∷ rows) zero h = absurd (omega arith)
-    listens-read (i ∷ rows) (suc n) h = rw (joined-word (at starts i), joined-word (at ends i), listens-read rows n (omega arith)) refl
-
-    listens-passed : (rows : List ℕ) (n : ℕ) → length rows ≤ n → afterListens n (listens starts ends rows ++ rest) ≡ rest
-    unfolding listens afterListens
-    listens-passed [] zero h = refl
-    listens-passed [] (suc n) h = rw (ne-eqb (at rest 0) LISTEN other) refl
-    listens-passed (i ∷ rows) zero h = absurd (omega arith)
-    listens-passed (i ∷ rows) (suc n) h = listens-passed rows n (omega arith)
+  pub listens-bytes : (rows : List ℕ) → listens starts ends rows ≡ listenBytes (map window rows)
+  unfolding listens listenBytes
+  listens-bytes [] = refl
+  listens-bytes (i ∷ rows) = ap (λ (l : List ℕ). listen starts ends i ++ l) (listens-bytes rows)
 
   module _ (kind : Kind) (R : ℕ) (labels : List ℕ) where
     -- kind, R and the windows of each receiver's rows
-    tape-read : read (planTape kind R starts ends labels)
-        ≡ record { kind = kind; ticks = R; first = map window (rowsOf starts labels 1); second = map window (rowsOf starts labels 2) }
-    unfolding planTape read
-    tape-read =
-        let ones = rowsOf starts labels 1 in
-        let twos = rowsOf starts labels 2 in
-        let n = length (planTape kind R starts ends labels) in
-        let end = STOP ∷ [] in
-        let middle = RECEIVER ∷ 2 ∷ (listens starts ends twos ++ end) in
-        let enough : length ones + length twos ≤ n =
-        omega (arith, tape-length starts labels kind R ends, listens-heard starts labels ends, listens-length starts ends ones, listens-length starts ends twos) in
-        rw (
-          kind-read kind,
-          joined-word R,
-          listens-read middle (λ e. omega arith) ones n (omega arith),
-          listens-passed middle (λ e. omega arith) ones n (omega arith),
-          listens-read end (λ e. omega arith) twos n (omega arith),
-        ) refl
+    abbrev pub planStated : Stated
+    planStated = record { kind = kind; ticks = R; first = map window (rowsOf starts labels 1); second = map window (rowsOf starts labels 2) }
+
+    pub plan-bytes : planTape kind R starts ends labels ≡ bytesOf planStated
+    unfolding planTape
+    plan-bytes = rw (listens-bytes (rowsOf starts labels 1), listens-bytes (rowsOf starts labels 2)) refl
+
+    pub tape-read : stated (planTape kind R starts ends labels) ≡ planStated
+    tape-read = ap stated plan-bytes ∙ bytes-read planStated
 
 -- A listening that a plan has for a receiver: the row's label is the receiver, and start and end are the row's.
 abbrev pub Heard : List ℕ → List ℕ → List ℕ → ℕ → Listen → Type 0
 Heard starts ends labels receiver w = (at labels (w .row) ≡ receiver) × (w .start ≡ at starts (w .row)) × (w .end ≡ at ends (w .row))
 
 -- what is read states the plan, and nothing else
-pub record States (kind : Kind) (R : ℕ) (starts ends labels : List ℕ) (g : Reading) : Type 0 where
+pub record States (kind : Kind) (R : ℕ) (starts ends labels : List ℕ) (g : Stated) : Type 0 where
   pub kind-stated : g .kind ≡ kind
   pub ticks-stated : g .ticks ≡ R
   pub first-stated : (w : Listen) → List·Memᴰ w (g .first) ↔ Heard starts ends labels 1 w
   pub second-stated : (w : Listen) → List·Memᴰ w (g .second) ↔ Heard starts ends labels 2 w
 
 -- a row that the table does not have counts as label 0
-past-end : (labels : List ℕ) (i receiver : ℕ) → 1 ≤ receiver → at labels i ≡ receiver → i < length labels
+pub past-end : (labels : List ℕ) (i receiver : ℕ) → 1 ≤ receiver → at labels i ≡ receiver → i < length labels
 past-end labels i receiver h e = go (decLt i (length labels))
   where
     go : Dec (i < length labels) → i < length labels
@@ -127,8 +136,7 @@ past-end labels i receiver h e = go (decLt i (length labels))
     go (no l) = absurd (omega (arith, List·getD-eq-default labels 0 {n = i} (omega arith)))
 
 module _ (starts ends labels : List ℕ) where
-  windows-stated : (receiver : ℕ) → 1 ≤ receiver → (w : Listen) → List·Memᴰ w (map (window starts ends) (rowsOf starts labels receiver)) ↔ Heard starts ends labels receiver w
-  unfolding window
+  pub windows-stated : (receiver : ℕ) → 1 ≤ receiver → (w : Listen) → List·Memᴰ w (map (window starts ends) (rowsOf starts labels receiver)) ↔ Heard starts ends labels receiver w
   windows-stated receiver h w = (to, from)
     where
       to : List·Memᴰ w (map (window starts ends) (rowsOf starts labels receiver)) → Heard starts ends labels receiver w
@@ -143,7 +151,7 @@ module _ (starts ends labels : List ℕ) where
           Memᴰ·cast (rw (← k .1, ← k .2) refl) m
 
   -- "its tape states exactly that plan"
-  pub tape-states : (kind : Kind) (R : ℕ) → States kind R starts ends labels (read (planTape kind R starts ends labels))
+  pub tape-states : (kind : Kind) (R : ℕ) → States kind R starts ends labels (stated (planTape kind R starts ends labels))
   tape-states kind R =
       rw (tape-read starts ends kind R labels)
       (record {

@@ -16,9 +16,10 @@ use Rattle.refusals.specs.declared.Refusal.the-variants.{Accepted}
 use Rattle.refusals.specs.Refusals.{numberOf, answered}
 use Rattle.table.specs.Tables.{Table, Plan}
 use Rattle.plan_tape.specs.PlanTapes.{planTape}
+use Rattle.plan_tape.specs.Stated.{Listen, Stated, stated}
 use Rattle.plan_tape.specs.Written.{tapeOf, writeRefusal, Written, writing, written, SamePlan}
 use Rattle.plan_tape.proofs.Accepted.{Fit, write-fit}
-use Rattle.plan_tape.proofs.Reading.{Listen, Reading, read, Heard, States, tape-states}
+use Rattle.plan_tape.proofs.Reading.{Heard, States, tape-states}
 
 -- ---- what states two plans states one
 
@@ -44,7 +45,7 @@ carry starts ends labels starts′ ends′ labels′ receiver listed f h i e =
     let w : Listen = record { row = i; start = at starts i; end = at ends i } in
     h w .0 (f w .1 (e, refl, refl))
 
-module _ {kind kind′ : Kind} {R R′ : ℕ} {starts ends labels starts′ ends′ labels′ : List ℕ} {g : Reading}
+module _ {kind kind′ : Kind} {R R′ : ℕ} {starts ends labels starts′ ends′ labels′ : List ℕ} {g : Stated}
     (p : States kind R starts ends labels g) (q : States kind′ R′ starts′ ends′ labels′ g)
     (known : (i : ℕ) → at labels i ≤ 2) (known′ : (i : ℕ) → at labels′ i ≤ 2) where
   states-same : SamePlan starts ends labels starts′ ends′ labels′
@@ -77,7 +78,7 @@ pub tapes-same : (kind kind′ : Kind) (R R′ : ℕ) (starts ends labels starts
     → planTape kind R starts ends labels ≡ planTape kind′ R′ starts′ ends′ labels′
     → (kind ≡ kind′) × (R ≡ R′) × SamePlan starts ends labels starts′ ends′ labels′
 tapes-same kind kind′ R R′ starts ends labels starts′ ends′ labels′ known known′ e =
-    let p : States kind R starts ends labels (read (planTape kind′ R′ starts′ ends′ labels′)) = rw e at (tape-states starts ends labels kind R) in
+    let p : States kind R starts ends labels (stated (planTape kind′ R′ starts′ ends′ labels′)) = rw e at (tape-states starts ends labels kind R) in
     let q = tape-states starts′ ends′ labels′ kind′ R′ in
     (sym (p .kind-stated) ∙ q .kind-stated, sym (p .ticks-stated) ∙ q .ticks-stated, states-same p q known known′)
 

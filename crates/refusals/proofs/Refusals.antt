@@ -5,7 +5,7 @@ use mathlib.Core.Bool.{Bool, true, false, cond, not}
 use native.Mathlib.Omega.{arith}
 use borrow.Author.Tests.{eq-eqb, ne-eqb, eqb-true, eqb-false, not-true, not-false}
 use Rattle.refusals.specs.declared.Refusal.{Refusal}
-use Rattle.refusals.specs.declared.Refusal.the-variants.{Accepted, Lists, Rows, Space, Ticks, Hours, Window, Mark, NoPlan, NotPlan, Buffer, Form}
+use Rattle.refusals.specs.declared.Refusal.the-variants.{Accepted, Lists, Rows, Space, Ticks, Hours, Window, Mark, NoPlan, NotPlan, Buffer, Form, Tape, FirstTick}
 use Rattle.refusals.specs.Refusals.{numberOf, asked, passes, _then_}
 
 -- a check that refuses nothing
@@ -26,6 +26,8 @@ number-below NoPlan = omega arith
 number-below NotPlan = omega arith
 number-below Buffer = omega arith
 number-below Form = omega arith
+number-below Tape = omega arith
+number-below FirstTick = omega arith
 
 -- ---- what comes out, from what a function that makes the check returned
 
@@ -48,6 +50,12 @@ module _ {a b : Bool} (r : Refusal) (e : a ≡ b) where
   asked-held n = rw (← e, not-false a n) refl
 
 -- ---- all checks passed
+
+pub asked-passes : (x : Bool) (r : Refusal) → x ≡ true → Passed (asked x r)
+asked-passes x r e = rw e refl
+
+pub then-passes : (a b : Refusal) → Passed a → Passed b → Passed (a then b)
+then-passes a b p q = rw (eq-eqb (numberOf a) 0 p) q
 
 pub then-passed : (a b : Refusal) → Passed (a then b) → Passed a × Passed b
 then-passed a b = go (passes a) refl
@@ -73,7 +81,7 @@ pub asked-either : (P : Refusal → Type 0) (x : Bool) {r : Refusal} → P Accep
 asked-either P true f g = f
 asked-either P false f g = g
 
--- ---- paper 01's numbers, written out
+-- ---- the papers' numbers, written out
 
 pub numbers :
     (numberOf Accepted ≡ 0)
@@ -88,4 +96,6 @@ pub numbers :
     × (numberOf NotPlan ≡ 9)
     × (numberOf Buffer ≡ 10)
     × (numberOf Form ≡ 11)
-numbers = (refl, refl, refl, refl, refl, refl, refl, refl, refl, refl, refl, refl)
+    × (numberOf Tape ≡ 12)
+    × (numberOf FirstTick ≡ 13)
+numbers = (refl, refl, refl, refl, refl, refl, refl, refl, refl, refl, refl, refl, refl, refl)

@@ -1,9 +1,9 @@
--- Believed: The refusals of paper 01, "Who can cause a no", by their numbers; 0 is accepted.
+-- Believed: The refusals of paper 01, "Who can cause a no", and of paper 02, by their numbers; 0 is accepted.
 use Prim.Native.Nat.{ℕ}
 use mathlib.Core.Bool.{Bool, cond}
 use lib.Dec.{eqb}
 use Rattle.refusals.specs.declared.Refusal.{Refusal}
-use Rattle.refusals.specs.declared.Refusal.the-variants.{Accepted, Lists, Rows, Space, Ticks, Hours, Window, Mark, NoPlan, NotPlan, Buffer, Form}
+use Rattle.refusals.specs.declared.Refusal.the-variants.{Accepted, Lists, Rows, Space, Ticks, Hours, Window, Mark, NoPlan, NotPlan, Buffer, Form, Tape, FirstTick}
 use Rattle.refusals.specs.declared.Answer.{Answer}
 
 abbrev pub numberOf : Refusal → ℕ
@@ -19,6 +19,8 @@ numberOf NoPlan = 8
 numberOf NotPlan = 9
 numberOf Buffer = 10
 numberOf Form = 11
+numberOf Tape = 12
+numberOf FirstTick = 13
 
 -- what a call reports
 abbrev pub answered : Refusal → ℕ → Answer

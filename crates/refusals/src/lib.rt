@@ -1,4 +1,4 @@
-// The refusals of paper 01, by their numbers, and what a call reports.
+// The refusals of papers 01 and 02, by their numbers, and what a call reports.
 ghost use mathlib.Core.Path.{_≡_};
 ghost use Rattle.refusals.specs.Refusals.{numberOf, answered};
 
@@ -16,6 +16,8 @@ pub enum Refusal {
     NotPlan,
     Buffer,
     Form,
+    Tape,
+    FirstTick,
 }
 
 // What a call reports.
@@ -24,7 +26,7 @@ pub struct Answer {
     pub count: usize,
 }
 
-// The refusal's number in paper 01; 0 for accepted.
+// The refusal's number in the papers; 0 for accepted.
 pub fn number(refusal: Refusal) -> u8
     ensures { λ r. ⌜ r ≡ numberOf refusal ⌝ }
 {
@@ -41,6 +43,8 @@ pub fn number(refusal: Refusal) -> u8
         Refusal::NotPlan => 9,
         Refusal::Buffer => 10,
         Refusal::Form => 11,
+        Refusal::Tape => 12,
+        Refusal::FirstTick => 13,
     }
 }
 

@@ -7,3 +7,4 @@ pub mod Plans
 pub mod Checked
 pub mod Rivals
 pub mod Calls
+pub mod Passing

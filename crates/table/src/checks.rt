@@ -30,7 +30,7 @@ pub fn check_lists(starts: usize, ends: usize, marks: usize, labels: usize) -> R
 }
 
 // Check 4.
-fn check_ticks(ticks: u16) -> Refusal
+pub fn check_ticks(ticks: u16) -> Refusal
     ensures { λ r. ⌜ r ≡ ticksRefusal ticks ⌝ }
 {
     if ticks < 2 {

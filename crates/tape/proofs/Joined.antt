@@ -23,3 +23,13 @@ high-small n h = omega arith
 
 pub low-small : (n : ℕ) → lowByte n < 256
 low-small n = omega arith
+
+-- the two bytes of the number that two bytes are
+pub high-joined : (a b : ℕ) → b < 256 → a ≡ highByte (joined a b)
+high-joined a b h = omega arith
+
+pub low-joined : (a b : ℕ) → b < 256 → b ≡ lowByte (joined a b)
+low-joined a b h = omega arith
+
+pub joined-16 : (a b : ℕ) → a < 256 → b < 256 → joined a b < 65536
+joined-16 a b h k = omega arith

@@ -1,7 +1,9 @@
--- Believed: The commands of a tape and how many bytes of operands each has (paper 01, "Tapes": "commands of one byte, each with operands of fixed widths").
-use Prim.Native.Nat.{ℕ}
-use mathlib.Core.Bool.{cond}
-use lib.Dec.{eqb}
+-- Believed: The commands of a tape, how many bytes of operands each has (paper 01, "Tapes": "commands of one byte, each with operands of fixed widths"), and a command with its operands at the front of bytes.
+use Prim.Native.Nat.{ℕ, _+_}
+use mathlib.Core.Bool.{Bool, cond, _&&_}
+use mathlib.Core.List.{List}
+use lib.Dec.{ltb, eqb}
+use lib.ListN.{length, getD, drop}
 
 -- the command bytes, in the order of paper 01's table
 abbrev pub ROUND : ℕ
@@ -39,3 +41,20 @@ operandBytes b =
     (cond (eqb b MUST) 4
     (cond (eqb b HOURS) 8
     (cond (eqb b STOP) 0 0)))))))
+
+-- the command stands first, and all bytes of its operands follow
+unfoldable pub begins : ℕ → List ℕ → Bool
+unfolding operandBytes
+begins command s = ltb (operandBytes command) (length s) && eqb (getD s 0 0) command
+
+-- STOP is all that is left: "STOP as the last byte"
+abbrev pub stopLast : List ℕ → Bool
+stopLast s = begins STOP s && eqb (length s) 1
+
+-- what follows a command with its operands
+abbrev pub after : ℕ → List ℕ → List ℕ
+after command s = drop (1 + operandBytes command) s
+
+-- the place after a command that stands at a place
+abbrev pub past : ℕ → ℕ → ℕ
+past command at = at + (1 + operandBytes command)

@@ -1,7 +1,10 @@
-// The commands of a tape with the widths of their operands, and 16-bit operands as two bytes.
+// The commands of a tape with the widths of their operands, 16-bit operands as two bytes, and a command at a place of a tape.
 ghost use mathlib.Core.Path.{_≡_};
-ghost use Rattle.tape.specs.Commands.{operandBytes};
-ghost use Rattle.tape.specs.Words.{highByte, lowByte, joined};
+ghost use mathlib.Core.Bool.{true};
+ghost use Prim.Native.Nat.{_+_};
+ghost use lib.ListN.{drop};
+ghost use Rattle.tape.specs.Commands.{operandBytes, begins, stopLast, past};
+ghost use Rattle.tape.specs.Words.{highByte, lowByte, joined, wordAt, Inside};
 
 pub const ROUND: u8 = 0x10;
 
@@ -181,4 +184,43 @@ pub fn join_bytes(high: u8, low: u8) -> u16
     ensures { λ r. ⌜ r ≡ joined high low ⌝ }
 {
     (high as u16) * 256 + (low as u16)
+}
+
+// Whether a command stands at a place, and all bytes of its operands follow.
+pub fn begins(tape: &[u8], at: usize, command: u8) -> bool
+    ensures { λ r. ⌜ r ≡ begins command (drop at (now (tape .entry))) ⌝ }
+{
+    if tape.len() <= at {
+        return false;
+    }
+    if tape.len() - at <= operand_bytes(command) {
+        return false;
+    }
+    tape[at] == command
+}
+
+// The place after a command that stands at a place with its operands.
+pub fn past(tape: &[u8], at: usize, command: u8) -> usize
+    requires { ⌜ begins command (drop at (now tape)) ≡ true ⌝ }
+    ensures { λ r. ⌜ r ≡ past command at ⌝ }
+{
+    at + (1 + operand_bytes(command))
+}
+
+// The 16-bit operand at a place.
+pub fn word_at(tape: &[u8], at: usize) -> u16
+    requires { ⌜ Inside (now tape) (at + 1) ⌝ }
+    ensures { λ r. ⌜ r ≡ wordAt (now (tape .entry)) at ⌝ }
+{
+    join_bytes(tape[at], tape[at + 1])
+}
+
+// Whether STOP stands at a place and is the last byte.
+pub fn is_stop_at(tape: &[u8], at: usize) -> bool
+    ensures { λ r. ⌜ r ≡ stopLast (drop at (now (tape .entry))) ⌝ }
+{
+    if begins(tape, at, STOP) {
+        return tape.len() - at == 1;
+    }
+    false
 }

@@ -11,7 +11,7 @@ use Rattle.basics.proofs.Tests.{Test, pass, fail, test, bool-ext, leb-iff, ltb-
 use Rattle.window.specs.declared.Kind.{Kind}
 use Rattle.window.specs.declared.Kind.the-variants.{Round, Run}
 use Rattle.window.specs.Ticks.{Ticks, distance}
-use Rattle.window.specs.Windows.{next, walk, Covers, Overlap, Window, isWindow, covers, ticksIn, overlaps}
+use Rattle.window.specs.Windows.{next, walk, Covers, Overlap, Window, isWindow, covers, ticksIn, liesIn, overlaps}
 use Rattle.window.proofs.Circle.{distance-after, distance-before}
 
 -- ---- check 6
@@ -290,3 +290,21 @@ module _ (kind : Kind) (R s e : ℕ) (w : Window kind R s e) where
       bool-ext (covers s e t) (ltb (distance R s t) (ticksIn kind R s e))
       (λ x. lt-ltb (distance R s t) (ticksIn kind R s e) (near .0 (covers-in s e t x)))
       (λ x. in-covers s e t (near .1 (ltb-true (distance R s t) (ticksIn kind R s e) x)))
+
+-- ---- a tick in a window, on any numbers
+
+pub lies-iff : (kind : Kind) (R s e t : ℕ) → (liesIn kind R s e t ≡ true) ↔ (Window kind R s e × (t < R) × Covers kind R s e t)
+unfolding liesIn
+lies-iff kind R s e t = (
+  λ x.
+      let f = tests .0 x in
+      (f .0 .0, f .0 .1, covers-iff kind R s e (f .0 .0) t (f .0 .1) .0 (covers-near kind R s e (f .0 .0) t (f .0 .1) ∙ f .1)),
+  λ h. tests .1 ((h .0, h .1), sym (covers-near kind R s e (h .0) t (h .1)) ∙ covers-iff kind R s e (h .0) t (h .1) .1 (h .2)),
+)
+  where
+    tests : (liesIn kind R s e t ≡ true) ↔ ((Window kind R s e × (t < R)) × (ltb (distance R s t) (ticksIn kind R s e) ≡ true))
+    tests = and-iff (and-iff (window-iff kind R s e) (ltb-iff t R)) (λ x. x, λ x. x)
+
+pub lies-said : {r : Bool} (kind : Kind) (R s e t : ℕ) → r ≡ liesIn kind R s e t
+    → (r ≡ liesIn kind R s e t) × ((r ≡ true) ↔ (Window kind R s e × (t < R) × Covers kind R s e t))
+lies-said kind R s e t q = (q, rw q (lies-iff kind R s e t))

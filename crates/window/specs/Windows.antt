@@ -53,6 +53,11 @@ unfoldable pub ticksIn : Kind → ℕ → ℕ → ℕ → ℕ
 ticksIn Round R s e = distance R s e
 ticksIn Run R s e = e - s
 
+-- start and end make a window, and the tick lies in it: how far it lies after the start is less than how many ticks the window covers
+unfoldable pub liesIn : Kind → ℕ → ℕ → ℕ → ℕ → Bool
+unfolding distance ticksIn
+liesIn kind R s e t = isWindow kind R s e && ltb t R && ltb (distance R s t) (ticksIn kind R s e)
+
 -- one of the two windows covers the other's start
 unfoldable pub overlaps : ℕ → ℕ → ℕ → ℕ → Bool
 unfolding covers

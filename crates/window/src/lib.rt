@@ -1,10 +1,10 @@
-// Ticks, windows and rows: how far a tick lies after a start, whether a window is proper, whether it covers a tick, whether two windows overlap.
+// Ticks, windows and rows: how far a tick lies after a start, which tick comes next, whether a window is proper, whether it covers a tick, whether two windows overlap.
 ghost use mathlib.Core.Path.{_≡_};
 ghost use mathlib.Core.Logic.{_↔_};
 ghost use mathlib.Core.Bool.{true};
 ghost use Prim.Native.Nat.{ℕ, _<_};
 ghost use Rattle.window.specs.Ticks.{Ticks, distance};
-ghost use Rattle.window.specs.Windows.{Covers, Overlap, Window, isWindow, covers, ticksIn, overlaps};
+ghost use Rattle.window.specs.Windows.{next, Covers, Overlap, Window, isWindow, covers, ticksIn, liesIn, overlaps};
 
 // A round is a day that repeats; a run is one stretch of time.
 pub enum Kind {
@@ -79,6 +79,36 @@ pub fn covers_tick(start: u16, end: u16, tick: u16) -> bool
         return true;
     }
     start <= tick
+}
+
+// Whether start and end make a window of a round or a run of `ticks` ticks and the tick lies in it, on any numbers.
+pub fn lies_in(kind: Kind, ticks: u16, start: u16, end: u16, tick: u16) -> bool
+    ensures computed { λ r. ⌜ r ≡ liesIn kind ticks start end tick ⌝ }
+    ensures meaning { λ r. ⌜ ((r ≡ true) ↔ (Window kind ticks start end × (tick < ticks) × Covers kind ticks start end tick)) ⌝ }
+{
+    if !is_window(kind, ticks, start, end) {
+        return false;
+    }
+    if ticks <= tick {
+        return false;
+    }
+    distance(ticks, start, tick) < ticks_in(kind, ticks, start, end)
+}
+
+// The tick after `tick`: in a round 0 comes after the last one.
+pub fn next_tick(kind: Kind, ticks: u16, tick: u16) -> u16
+    requires { ⌜ tick < ticks ⌝ }
+    ensures { λ r. ⌜ r ≡ next kind ticks tick ⌝ }
+{
+    match kind {
+        Kind::Round => {
+            if tick + 1 == ticks {
+                return 0;
+            }
+            tick + 1
+        }
+        Kind::Run => tick + 1,
+    }
 }
 
 // Whether two windows overlap. Of windows that fail check 6 it is what `overlaps` computes, and says nothing about ticks.

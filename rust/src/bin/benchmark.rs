@@ -1,8 +1,8 @@
 //! The benchmark: `cargo run --release --bin benchmark` prints every table of docs/BENCHMARKS.md. Times are processor time of this thread, or of the child process for
 //! glpsol, so that other work on the machine counts as little as possible.
 
-use hubplan::tables::{benchmark_tables, deep, Table};
-use hubplan::{first_free, port, Kind, Refusal, SPACE_BYTES};
+use hubplan::tables::{benchmark_tables, deep, in_turn, Table, DAY};
+use hubplan::{first_free, player_port, port, Kind, Player, Refusal, Stepped, PLAN_TAPE_BYTES, SPACE_BYTES};
 use std::fmt::Write as _;
 use std::hint::black_box;
 use std::path::{Path, PathBuf};
@@ -315,13 +315,14 @@ fn one_plan(index: usize, planner: Planner) {
     let _ = black_box(plan_with(planner, table, &mut labels, &mut space));
 }
 
-fn counted(folder: &Path, index: usize, planner: &str, function: &str) -> Option<u64> {
+/// The instructions of a function, and of what it calls, while this program runs with these words.
+fn counted(folder: &Path, words: &[&str], function: &str) -> Option<u64> {
     let output = Command::new("valgrind")
         .arg("--tool=callgrind")
         .arg(format!("--toggle-collect={function}"))
         .arg(format!("--callgrind-out-file={}", folder.join("callgrind.out").display()))
         .arg(env::current_exe().ok()?)
-        .args(["one", &index.to_string(), planner])
+        .args(words)
         .output()
         .ok()?;
     let text = String::from_utf8_lossy(&output.stderr).to_string();
@@ -347,13 +348,79 @@ fn instructions(folder: &Path) {
     println!("|---|---|---|---|");
     for index in [0, 4] {
         let name = benchmark_tables()[index].0;
-        let proved = counted(folder, index, "planner", "hub_plan_round");
-        let ported = counted(folder, index, "port", "hubplan::port::plan");
+        let number = index.to_string();
+        let proved = counted(folder, &["one", &number, "planner"], "hub_plan_round");
+        let ported = counted(folder, &["one", &number, "port"], "hubplan::port::plan");
         match (proved, ported) {
             (Some(proved), Some(ported)) => println!("| {name} | {proved} | {ported} | {:.2} |", proved as f64 / ported as f64),
             _ => println!("| {name} | not counted | | |"),
         }
     }
+}
+
+type Start = fn(&[u8], u16) -> Result<Player, Refusal>;
+type Step = fn(&[u8], Player) -> Stepped;
+
+/// A round of 43,200 ticks with 32 LISTENs for each receiver.
+fn player_tape() -> Vec<u8> {
+    let (table, labels) = in_turn(12);
+    let mut tape = vec![0; PLAN_TAPE_BYTES];
+    let length = hubplan::write_plan(table.kind, table.ticks, &table.starts, &table.ends, &table.marks, &labels, &mut tape);
+    assert_eq!(length, Ok(PLAN_TAPE_BYTES));
+    tape
+}
+
+/// A whole day of steps.
+fn one_day(step: Step, tape: &[u8]) {
+    let mut player = Player { tick: 0 };
+    for _ in 0..DAY {
+        player = black_box(step(black_box(tape), player)).player;
+    }
+}
+
+fn one_start(start: Start, tape: &[u8]) {
+    let _ = black_box(start(black_box(tape), 0));
+}
+
+fn check_day(tape: &[u8]) {
+    for tick in 0..DAY as u16 {
+        assert_eq!(hubplan::step(tape, Player { tick }), player_port::step(tape, Player { tick }));
+    }
+    assert_eq!(hubplan::start(tape, 0), player_port::start(tape, 0));
+}
+
+fn player_line(name: &str, times: &[Spread], counts: [Option<u64>; 2]) {
+    let instructions = match counts {
+        [Some(proved), Some(ported)] => format!("{proved} | {ported} | {:.2}", proved as f64 / ported as f64),
+        _ => "not counted | |".to_string(),
+    };
+    let ratio = times[0].median / times[1].median;
+    println!("| {name} | {} | {} | {ratio:.2} | {instructions} |", times[0].words(), times[1].words());
+}
+
+fn players(folder: &Path) {
+    println!("\n## Player\n");
+    println!("Microseconds of processor time: the median of repeated runs (lower to upper quartile). Instructions are counted by valgrind.\n");
+    println!("| | player | hand port | player / port | instructions | of the port | ratio |");
+    println!("|---|---|---|---|---|---|---|");
+    let tape = player_tape();
+    check_day(&tape);
+    let mut proved = || one_day(hubplan::step, &tape);
+    let mut ported = || one_day(player_port::step, &tape);
+    let steps = measure(&mut [&mut proved, &mut ported], 81);
+    let counts = [("player", "hub_player_step"), ("port", "hubplan::player_port::step")].map(|(who, name)| counted(folder, &["day", who], name));
+    player_line("a day of 43,200 steps", &steps, counts);
+    let mut proved = || one_start(hubplan::start, &tape);
+    let mut ported = || one_start(player_port::start, &tape);
+    let starts = measure(&mut [&mut proved, &mut ported], 81);
+    let counts = [("player", "hub_player_start"), ("port", "hubplan::player_port::start")].map(|(who, name)| counted(folder, &["start", who], name));
+    player_line("a start", &starts, counts);
+    let of_step = |time: Spread| time.median / DAY as f64;
+    println!(
+        "\nA step takes {:.0} nanoseconds, and {:.0} in the hand port.",
+        of_step(steps[0]),
+        of_step(steps[1])
+    );
 }
 
 fn main() {
@@ -362,16 +429,23 @@ fn main() {
     match words[..] {
         ["one", index, "planner"] => return one_plan(index.parse().expect("a table's number"), hubplan::plan),
         ["one", index, "port"] => return one_plan(index.parse().expect("a table's number"), port::plan),
-        [] => {}
+        ["day", "player"] => return one_day(hubplan::step, &player_tape()),
+        ["day", "port"] => return one_day(player_port::step, &player_tape()),
+        ["start", "player"] => return one_start(hubplan::start, &player_tape()),
+        ["start", "port"] => return one_start(player_port::start, &player_tape()),
+        [] | ["player"] => {}
         _ => {
-            eprintln!("usage: benchmark [one NUMBER planner|port]");
+            eprintln!("usage: benchmark [player | one NUMBER planner|port | day player|port | start player|port]");
             std::process::exit(2);
         }
     }
     let folder: PathBuf = env::temp_dir().join(format!("hubplan-benchmark-{}", std::process::id()));
     fs::create_dir_all(&folder).expect("a folder for glpsol's files");
-    tables_of_64_rows(&folder);
-    growth();
-    instructions(&folder);
+    if words.is_empty() {
+        tables_of_64_rows(&folder);
+        growth();
+        instructions(&folder);
+    }
+    players(&folder);
     fs::remove_dir_all(&folder).expect("the folder goes");
 }

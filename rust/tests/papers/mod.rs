@@ -1,5 +1,7 @@
-//! Papers 00 and 01 once more, written from their text alone and sharing no code with the planner: the comparison for the tests. Windows are sets of ticks, found by
+//! Papers 00 and 01 once more, and request 1 of paper 02 in player.rs, written from their text alone and sharing no code with the planner: the comparison for the tests. Windows are sets of ticks, found by
 //! walking; up to 8 rows every list of labels is tried; a larger table is planned by a forward search over what each receiver is busy with.
+
+pub mod player;
 
 use hubplan::tables::Table;
 use hubplan::Kind;

@@ -1,6 +1,6 @@
 -- `fleet_tape::hours_at` meets its contract: each word is that of the part that starts at the place.
 use mathlib.Core.Path.{_∙_}
-use Rattle.fleet_tape.proofs.Heads.{word-at}
+use Rattle.tape.proofs.Heads.{word-at}
 use borrow.Author.Needs.{needs}
 use Rattle.fleet_tape.proofs.hours_at.Statement.{statement}
 use Rattle.fleet_tape.proofs.hours_at.Tie as tie

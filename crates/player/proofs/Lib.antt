@@ -1,0 +1,7 @@
+-- Laws of the player, and the theorem that it follows its tape.
+pub mod Steps
+pub mod Telling
+pub mod Following
+pub mod Request
+pub mod Plan
+pub mod Session

@@ -1,0 +1,101 @@
+// The ticks at which the receivers listen, walked one by one and marked in a list with a place for each receiver and tick of the longest day.
+// It is written from paper 01 alone and uses no product code.
+use player_calls::listening;
+
+// A run or a round of so many ticks.
+pub struct Time {
+    pub run: bool,
+    pub ticks: u16,
+}
+
+// The tick until which a receiver listens, of what it does as a number (`player_calls`).
+pub fn until_of(told: u32) -> u16 {
+    (told % 65536) as u16
+}
+
+// The tick after a tick, in a round "going from R-1 to 0".
+pub fn after(time: Time, tick: u16) -> u16 {
+    let next = std::num::wrapping_add_u16(tick, 1);
+    if time.run {
+        return next;
+    }
+    if next < time.ticks { next } else { 0 }
+}
+
+// Where a tick of a receiver's day stands: 43,200 places for receiver 1, and then as many for receiver 2.
+fn place(receiver: u8, tick: u16) -> usize {
+    if receiver == 1 {
+        return tick as usize;
+    }
+    (tick as usize) + 43200
+}
+
+// What a receiver does at a tick.
+pub fn at_tick(days: &[u32; 86400], receiver: u8, tick: u16) -> u32 {
+    let at = place(receiver, tick);
+    if at < 86400 { days[at] } else { 0 }
+}
+
+pub fn put(days: &mut [u32; 86400], receiver: u8, tick: u16, told: u32) {
+    let at = place(receiver, tick);
+    if at < 86400 {
+        days[at] = told;
+    }
+}
+
+// Makes both receivers idle at the first so many ticks.
+pub fn clear(days: &mut [u32; 86400], ticks: u16) {
+    let mut tick: u16 = 0;
+    while tick < ticks {
+        put(days, 1, tick, 0);
+        put(days, 2, tick, 0);
+        tick += 1;
+    }
+}
+
+// Whether a receiver is idle at each tick of a window: "start, start+1 and so on, going from R-1 to 0, up to the tick before end".
+fn is_free(days: &[u32; 86400], receiver: u8, time: Time, start: u16, end: u16) -> bool {
+    let mut tick = start;
+    let mut left = time.ticks;
+    while 0 < left {
+        if tick == end {
+            return true;
+        }
+        if at_tick(days, receiver, tick) != 0 {
+            return false;
+        }
+        tick = after(time, tick);
+        left -= 1;
+    }
+    true
+}
+
+// Marks each tick of a window.
+fn mark(days: &mut [u32; 86400], receiver: u8, time: Time, start: u16, end: u16, told: u32) {
+    let mut tick = start;
+    let mut left = time.ticks;
+    while 0 < left {
+        if tick == end {
+            return;
+        }
+        put(days, receiver, tick, told);
+        tick = after(time, tick);
+        left -= 1;
+    }
+}
+
+// Marks a row's window, unless the receiver listens at one of its ticks already: whether it did not.
+pub fn take(
+    days: &mut [u32; 86400],
+    receiver: u8,
+    time: Time,
+    row: u8,
+    start: u16,
+    end: u16,
+) -> bool {
+    if !is_free(days, receiver, time, start, end) {
+        return false;
+    }
+    mark(days, receiver, time, start, end, listening(row, end));
+    true
+}

@@ -1,0 +1,115 @@
+//! The player's step once more, by hand in plain Rust and unproved: what the proved step's time is measured against. It is the same walk, once over the tape; the start is
+//! the plain one of a program that need not be proved, with one pass where the proved start compares each LISTEN with all others.
+
+use crate::{Player, Receiver, Refusal, Stepped};
+
+struct Listen {
+    row: u8,
+    start: u16,
+    end: u16,
+}
+
+/// Whether the tape is of a run, its ticks, and the bytes after them.
+fn head(tape: &[u8]) -> Option<(bool, u16, &[u8])> {
+    match tape {
+        [command @ (0x10 | 0x11), high, low, rest @ ..] => Some((*command == 0x11, u16::from_be_bytes([*high, *low]), rest)),
+        _ => None,
+    }
+}
+
+/// The LISTEN with which the bytes begin, and the bytes after it.
+fn listen(bytes: &[u8]) -> Option<(Listen, &[u8])> {
+    let [0x30, row, a, b, c, d, rest @ ..] = bytes else {
+        return None;
+    };
+    let (start, end) = (u16::from_be_bytes([*a, *b]), u16::from_be_bytes([*c, *d]));
+    Some((Listen { row: *row, start, end }, rest))
+}
+
+fn is_window(run: bool, ticks: u16, start: u16, end: u16) -> bool {
+    if run {
+        start < end && end <= ticks
+    } else {
+        start < ticks && end < ticks && start != end
+    }
+}
+
+/// How far a tick lies after another, if both are below `ticks`.
+fn distance(ticks: u16, from: u16, to: u16) -> u16 {
+    let ahead = to.wrapping_sub(from);
+    if from <= to {
+        ahead
+    } else {
+        ahead.wrapping_add(ticks)
+    }
+}
+
+/// What the LISTENs of the receiver with which the bytes begin tell at a tick, and the bytes after them.
+fn told(run: bool, ticks: u16, tick: u16, bytes: &[u8]) -> (Receiver, &[u8]) {
+    let [0x20, _, rest @ ..] = bytes else {
+        return (Receiver::Idle, bytes);
+    };
+    let (mut receiver, mut rest) = (Receiver::Idle, rest);
+    while let Some((Listen { row, start, end }, after)) = listen(rest) {
+        if distance(ticks, start, tick) < distance(ticks, start, end) && is_window(run, ticks, start, end) {
+            receiver = Receiver::Listening { row, until: end };
+        }
+        rest = after;
+    }
+    (receiver, rest)
+}
+
+/// The same promise as `crate::step`, unproved.
+#[inline(never)]
+pub fn step(tape: &[u8], player: Player) -> Stepped {
+    let Some((run, ticks, rest)) = head(tape).filter(|&(_, ticks, _)| player.tick < ticks) else {
+        return Stepped { receivers: None, player };
+    };
+    let (receiver1, rest) = told(run, ticks, player.tick, rest);
+    let (receiver2, _) = told(run, ticks, player.tick, rest);
+    let next = player.tick + 1;
+    let tick = if next == ticks && !run { 0 } else { next };
+    Stepped {
+        receivers: Some([receiver1, receiver2]),
+        player: Player { tick },
+    }
+}
+
+/// The bytes after the part of a receiver, if the writer can write it beside the rows that are taken. Starts rise, so a window that meets another meets the next one, or it
+/// is the last, goes over the end of the day and meets the first.
+fn after_part<'a>(run: bool, ticks: u16, number: u8, bytes: &'a [u8], rows: &mut u64) -> Option<&'a [u8]> {
+    let [0x20, stands, rest @ ..] = bytes else {
+        return None;
+    };
+    let mut rest = rest;
+    let (mut first, mut free, mut over_end) = (None, 0, 0);
+    while let Some((Listen { row, start, end }, after)) = listen(rest) {
+        if row >= 64 || *rows >> row & 1 == 1 || start < free || !is_window(run, ticks, start, end) {
+            return None;
+        }
+        *rows |= 1 << row;
+        first = first.or(Some(start));
+        (free, over_end) = if end < start { (ticks, end) } else { (end, 0) };
+        rest = after;
+    }
+    (*stands == number && over_end <= first.unwrap_or(0)).then_some(rest)
+}
+
+fn plan_tape_ticks(tape: &[u8]) -> Option<u16> {
+    let (run, ticks, rest) = head(tape)?;
+    let mut rows = 0;
+    let rest = after_part(run, ticks, 1, rest, &mut rows)?;
+    let rest = after_part(run, ticks, 2, rest, &mut rows)?;
+    ((2..=43_200).contains(&ticks) && rest == [0x7f]).then_some(ticks)
+}
+
+/// The same promise as `crate::start`, unproved.
+#[inline(never)]
+pub fn start(tape: &[u8], first: u16) -> Result<Player, Refusal> {
+    let ticks = plan_tape_ticks(tape).ok_or(Refusal::Tape)?;
+    if first < ticks {
+        Ok(Player { tick: first })
+    } else {
+        Err(Refusal::FirstTick)
+    }
+}
