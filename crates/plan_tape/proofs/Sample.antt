@@ -1,4 +1,4 @@
--- Paper 01's session: its plan tape of 26 bytes, the buffer of 25 bytes, and labels of P2 with a 3 in them.
+-- Paper 01's session: its plan tape of 26 bytes, the buffer of 25 bytes, and labels of P2 with a 3 in them; the writer's order; labels on the wrong receiver.
 use Prim.Native.Nat.{ℕ}
 use mathlib.Core.Path.{_≡_, refl}
 use mathlib.Core.List.{List, [], _∷_, _++_}
@@ -70,3 +70,28 @@ pub order :
     × (written (faulty 10 (hoursFrom 0 10 0 10) (row 3 4 0)) (2 ∷ []) (9 ∷ []) ≡ refused Buffer 1)
 unfolding written
 order = (refl, refl, refl, refl, refl, refl, refl, refl)
+
+-- "labels that use the wrong receiver are no plan" (request 2 of paper 02): row 3–4 of a round, by its mark; tapes are as they were, and have no mark
+abbrev marked : ℕ → ℕ → Written
+marked mark label = written (tableOf (settingOf Round 10 noHours) (row 3 4 mark ∷ [])) (label ∷ []) (replicate 14 9)
+
+abbrev heard1 : Written
+heard1 = writing (answered Accepted 14) (0x10 ∷ 0x00 ∷ 0x0A ∷ 0x20 ∷ 0x01 ∷ 0x30 ∷ 0x00 ∷ 0x00 ∷ 0x03 ∷ 0x00 ∷ 0x04 ∷ 0x20 ∷ 0x02 ∷ 0x7F ∷ [])
+
+abbrev heard2 : Written
+heard2 = writing (answered Accepted 14) (0x10 ∷ 0x00 ∷ 0x0A ∷ 0x20 ∷ 0x01 ∷ 0x20 ∷ 0x02 ∷ 0x30 ∷ 0x00 ∷ 0x00 ∷ 0x03 ∷ 0x00 ∷ 0x04 ∷ 0x7F ∷ [])
+
+pub receivers :
+    (marked 2 1 ≡ heard1)
+    × (marked 2 2 ≡ refused NotPlan 14)
+    × (marked 3 1 ≡ heard1)
+    × (marked 3 2 ≡ refused NotPlan 14)
+    × (marked 3 0 ≡ refused NotPlan 14)
+    × (marked 4 1 ≡ refused NotPlan 14)
+    × (marked 4 2 ≡ heard2)
+    × (marked 5 1 ≡ refused NotPlan 14)
+    × (marked 5 2 ≡ heard2)
+    × (marked 5 0 ≡ refused NotPlan 14)
+    × (marked 6 2 ≡ refused Mark 14)
+unfolding written
+receivers = (refl, refl, refl, refl, refl, refl, refl, refl, refl, refl, refl)

@@ -1,4 +1,4 @@
--- P1 to P12 of paper 01's bench table: twelve calls, and the whole answer to each.
+-- The bench table: P1 to P12 of paper 01, and examples of marks 2 to 5 (request 2 of paper 02). Calls, and the whole answer to each.
 use Prim.Native.Nat.{ℕ}
 use mathlib.Core.Path.{_≡_, refl}
 use mathlib.Core.List.{List, [], _∷_, map}
@@ -58,6 +58,26 @@ p9 m = row 45 60 0 ∷ row 50 60 m ∷ row 0 50 0 ∷ []
 p12 : List Row
 p12 = row 1 2 9 ∷ row 3 3 0 ∷ []
 
+-- row 1 meets rows 0 and 2, which do not meet
+m1 : ℕ → ℕ → ℕ → List Row
+m1 a b c = row 0 2 a ∷ row 1 4 b ∷ row 3 6 c ∷ []
+
+-- row 2 meets rows 0 and 1, which do not meet
+m3 : ℕ → ℕ → ℕ → List Row
+m3 a b c = row 0 2 a ∷ row 4 6 b ∷ row 1 5 c ∷ []
+
+-- three equal windows
+m6 : ℕ → ℕ → ℕ → List Row
+m6 a b c = row 4 5 a ∷ row 4 5 b ∷ row 4 5 c ∷ []
+
+-- receiver 1 is closed
+m9-hours : List (List ℕ)
+m9-hours = hoursFrom 0 0 0 100
+
+m9 : ℕ → List Row
+m9 m = row 10 20 m ∷ []
+
+-- P1 to P12, and then request 2: "2 and 3 may and must on receiver 1 only, 4 and 5 may and must on receiver 2 only"
 pub cases : List Case
 cases =
     round 100 [] (plan 0 [])
@@ -72,6 +92,29 @@ cases =
     ∷ run 100 p9-hours (p9 1) (plan 2 (0 ∷ 2 ∷ 1 ∷ []))
     ∷ round 2 (row 0 1 0 ∷ row 1 0 0 ∷ []) (plan 2 (1 ∷ 1 ∷ []))
     ∷ round 10 p12 (refused Mark p12)
+    -- mark 2 on row 1 changes the labels and not the count; so do mark 4 on row 0, and a must on receiver 2 that moves other rows
+    ∷ round 10 (m1 0 0 0) (plan 3 (1 ∷ 2 ∷ 1 ∷ []))
+    ∷ round 10 (m1 0 2 0) (plan 3 (2 ∷ 1 ∷ 2 ∷ []))
+    ∷ round 10 (m1 4 0 0) (plan 3 (2 ∷ 1 ∷ 2 ∷ []))
+    ∷ round 10 (m1 0 0 5) (plan 3 (2 ∷ 1 ∷ 2 ∷ []))
+    -- a row that may be heard on one receiver only is left out for one that must; of two such rows the first is heard
+    ∷ round 10 (m1 0 2 3) (plan 2 (1 ∷ 0 ∷ 1 ∷ []))
+    ∷ round 10 (m1 2 2 0) (plan 2 (1 ∷ 0 ∷ 1 ∷ []))
+    -- marks 3 and 5 leave no plan where 1 and 1 do, by a third must row that meets both
+    ∷ round 10 (m3 1 1 1) (plan 3 (1 ∷ 1 ∷ 2 ∷ []))
+    ∷ round 10 (m3 3 5 1) (refused NoPlan (m3 3 5 1))
+    -- equal windows, a must on each receiver, and two on one
+    ∷ round 10 (m6 0 5 3) (plan 2 (0 ∷ 2 ∷ 1 ∷ []))
+    ∷ round 10 (m6 0 4 4) (plan 2 (1 ∷ 2 ∷ 0 ∷ []))
+    ∷ round 10 (m6 3 0 3) (refused NoPlan (m6 3 0 3))
+    -- in a run whose receiver 1 is closed
+    ∷ run 100 m9-hours (m9 0) (plan 1 (2 ∷ []))
+    ∷ run 100 m9-hours (m9 2) (plan 0 (0 ∷ []))
+    ∷ run 100 m9-hours (m9 3) (refused NoPlan (m9 3))
+    ∷ run 100 m9-hours (m9 4) (plan 1 (2 ∷ []))
+    ∷ run 100 m9-hours (m9 5) (plan 1 (2 ∷ []))
+    -- "Refusal 7 now begins at mark 6"
+    ∷ round 10 (m6 2 4 6) (refused Mark (m6 2 4 6))
     ∷ []
 
 -- each call gives what stands in the table, with 16,384 bytes of working space
@@ -80,5 +123,5 @@ Holds [] = Unit {0}
 Holds (c ∷ cs) = (planned (c .lent) (c .before) 16384 ≡ c .gives) × Holds cs
 
 pub bench : Holds cases
-unfolding planned cases on round run plan refused nines p2 p5 p9-hours p9 p12
-bench = (refl, (refl, (refl, (refl, (refl, (refl, (refl, (refl, (refl, (refl, (refl, (refl, tt))))))))))))
+unfolding planned cases on round run plan refused nines p2 p5 p9-hours p9 p12 m1 m3 m6 m9-hours m9
+bench = (refl, (refl, (refl, (refl, (refl, (refl, (refl, (refl, (refl, (refl, (refl, (refl, (refl, (refl, (refl, (refl, (refl, (refl, (refl, (refl, (refl, (refl, (refl, (refl, (refl, (refl, (refl, (refl, (refl, tt)))))))))))))))))))))))))))))

@@ -12,6 +12,7 @@ use borrow.Author.Tests.{eqb-true, eqb-false, leb-true}
 use Rattle.basics.proofs.Tests.{leb-iff, eqb-iff, and-iff}
 use Rattle.window.specs.declared.Kind.{Kind}
 use Rattle.window.specs.declared.Kind.the-variants.{Round, Run}
+use Rattle.marks.specs.Marks.{maxMark}
 use Rattle.window.specs.declared.Row.{Row}
 use Rattle.window.specs.Windows.{isWindow}
 use Rattle.window.proofs.Meaning.{window-iff}
@@ -70,11 +71,11 @@ module _ (S : Setting) where
   unfolding rowRefusal
   row-passed row p =
       let w = isWindow (S .kind) (S .ticks) (row .start) (row .end) in
-      let m = leb (row .mark) 1 in
+      let m = leb (row .mark) maxMark in
       let f = then-passed (asked w Window) (asked m Mark) p in
       record {
         window = window-iff (S .kind) (S .ticks) (row .start) (row .end) .0 (asked-passed w Window (omega arith) (f .0));
-        mark = leb-true (row .mark) 1 (asked-passed m Mark (omega arith) (f .1));
+        mark = leb-true (row .mark) maxMark (asked-passed m Mark (omega arith) (f .1));
       }
 
 module _ (t : Table) where
@@ -138,7 +139,7 @@ unfolding rowRefusal
 row-8 S row =
     then-either Not8
     (asked-8 (isWindow (S .kind) (S .ticks) (row .start) (row .end)) {r = Window} (record { not = λ e. omega arith }))
-    (asked-8 (leb (row .mark) 1) {r = Mark} (record { not = λ e. omega arith }))
+    (asked-8 (leb (row .mark) maxMark) {r = Mark} (record { not = λ e. omega arith }))
 
 module _ (t : Table) where
   rows-8 : Not8 (rowsLooked t .refusal)

@@ -70,6 +70,16 @@ pub ends :
 unfolding planned
 ends = (refl, refl, refl, refl)
 
+-- "Refusal 7 now begins at mark 6", in a round and in a run; a mark has eight bits
+pub marks :
+    Plans 1 (2 ∷ []) (round 100 (row 10 20 5 ∷ [])) (9 ∷ []) 16384
+    × Refused Mark (round 100 (row 10 20 6 ∷ [])) (9 ∷ []) 16384
+    × Refused Mark (round 100 (row 10 20 255 ∷ [])) (9 ∷ []) 16384
+    × Plans 1 (2 ∷ []) (run 0 100 0 100 (row 10 20 5 ∷ [])) (9 ∷ []) 16384
+    × Refused Mark (run 0 100 0 100 (row 10 20 6 ∷ [])) (9 ∷ []) 16384
+unfolding planned
+marks = (refl, refl, refl, refl, refl)
+
 -- "1, 2, 3, 4, 5, then rows from 0, each for 6 and then 7": of two faults the first is reported
 pub order :
     Refused Lists (table (settingOf Round 1 noHours) (replicate 65 1) (replicate 64 2) (replicate 65 9)) (replicate 65 5) 0

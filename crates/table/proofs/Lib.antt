@@ -6,5 +6,6 @@ pub mod Testing
 pub mod Plans
 pub mod Checked
 pub mod Rivals
+pub mod Former
 pub mod Calls
 pub mod Passing

@@ -10,6 +10,7 @@ use lib.Dec.{leb, eqb}
 use lib.ListN.{length}
 use Rattle.basics.specs.Limits.{maxRows}
 use Rattle.basics.proofs.Tests.{leb-iff, eqb-iff, and-iff}
+use Rattle.marks.specs.Marks.{maxMark}
 use Rattle.window.specs.declared.Row.{Row}
 use Rattle.window.specs.Windows.{isWindow}
 use Rattle.window.proofs.Meaning.{window-iff}
@@ -41,10 +42,10 @@ module _ (S : Setting) where
   unfolding rowRefusal
   row-passes row v =
       let shape = isWindow (S .kind) (S .ticks) (row .start) (row .end) in
-      let mark = leb (row .mark) 1 in
+      let mark = leb (row .mark) maxMark in
       then-passes (asked shape Window) (asked mark Mark)
       (asked-passes shape Window (window-iff (S .kind) (S .ticks) (row .start) (row .end) .1 (v .window)))
-      (asked-passes mark Mark (leb-iff (row .mark) 1 .1 (v .mark)))
+      (asked-passes mark Mark (leb-iff (row .mark) maxMark .1 (v .mark)))
 
 module _ (t : Table) (valid : Valid t) where
   pub lists-pass : (labels : List ℕ) → length labels ≡ rows t → Passed (listsRefusal t labels)

@@ -9,6 +9,8 @@ use native.Mathlib.Omega.{arith}
 use lib.ListN.{length}
 use Rattle.basics.specs.Lists.{at}
 use Rattle.basics.proofs.Tests.{leb-iff, eqb-iff, and-iff, not-iff, imp-iff, every-iff}
+use Rattle.marks.specs.Marks.{Must, Receiver1Only, Receiver2Only}
+use Rattle.marks.proofs.Allowing.{allows-iff}
 use Rattle.window.specs.declared.Kind.{Kind}
 use Rattle.window.specs.declared.Kind.the-variants.{Round, Run}
 use Rattle.window.specs.declared.Row.{Row}
@@ -27,15 +29,13 @@ module _ (S : Setting) (row : Row) where
   pub allowed-iff : (x : ℕ) → (isAllowed S row x ≡ true) ↔ Allowed S row x
   unfolding isAllowed
   allowed-iff x = (
-    λ e. let f = clauses .0 e in record { known = f .0 .0; must = f .0 .1; hours = f .1 },
-    λ a. clauses .1 ((a .known, a .must), a .hours),
+    λ e. let f = clauses .0 e in let m = f .0 .1 in record { known = f .0 .0; must = m .0 .0; receiver-1 = m .0 .1; receiver-2 = m .1; hours = f .1 },
+    λ a. clauses .1 ((a .known, ((a .must, a .receiver-1), a .receiver-2)), a .hours),
   )
     where
-      clauses : (isAllowed S row x ≡ true) ↔ (((x ≤ 2) × (row .mark ≡ 1 → x ≢ 0)) × Open (S .kind) (S .hours) row x)
-      clauses =
-          and-iff
-          (and-iff (leb-iff x 2) (imp-iff (eqb-iff (row .mark) 1) (not-iff (eqb-iff x 0))))
-          (open-iff (S .kind) (S .hours) row x)
+      clauses : (isAllowed S row x ≡ true)
+          ↔ (((x ≤ 2) × (((Must (row .mark) → x ≢ 0) × (Receiver1Only (row .mark) → x ≢ 2)) × (Receiver2Only (row .mark) → x ≢ 1))) × Open (S .kind) (S .hours) row x)
+      clauses = and-iff (and-iff (leb-iff x 2) (allows-iff (row .mark) x)) (open-iff (S .kind) (S .hours) row x)
 
   module _ (row′ : Row) where
     pub clashes-iff : ValidRow S row → ValidRow S row′ → (clashes S row row′ ≡ true) ↔ Clash S row row′

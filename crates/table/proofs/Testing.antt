@@ -11,6 +11,7 @@ use borrow.Author.Tests.{le-leb, lt-leb, eq-eqb, ne-eqb}
 use Rattle.basics.specs.Lists.{at}
 use Rattle.basics.specs.Tests.{_⇒_, every}
 use Rattle.basics.proofs.Tests.{every-fails}
+use Rattle.marks.specs.Marks.{markAllows}
 use Rattle.window.specs.declared.Kind.{Kind}
 use Rattle.window.specs.declared.Kind.the-variants.{Round, Run}
 use Rattle.window.specs.declared.Row.{Row}
@@ -34,23 +35,21 @@ module _ (S : Setting) (row : Row) where
   unfolding isAllowed
   allowed-past label h = simp (lt-leb label 2 h)
 
-  pub allowed-heard : (label : ℕ) → label ≤ 2 → (label ≡ 0 → ⊥) → isOpen (S .kind) (S .hours) row label ≡ isAllowed S row label
+  pub allowed-wrong : (label : ℕ) → label ≤ 2 → markAllows (row .mark) label ≡ false → false ≡ isAllowed S row label
   unfolding isAllowed
-  allowed-heard label h n = rw (le-leb label 2 h, ne-eqb label 0 n) (go (eqb (row .mark) 1))
-    where
-      go : (b : Bool) → isOpen (S .kind) (S .hours) row label ≡ (b ⇒ true) && isOpen (S .kind) (S .hours) row label
-      go true = refl
-      go false = refl
+  allowed-wrong label h e = rw (le-leb label 2 h, e) refl
 
-  pub allowed-none : (label : ℕ) → label ≡ 0 → not (eqb (row .mark) 1) ≡ isAllowed S row label
-  unfolding isAllowed
-  allowed-none label e = rw e (go (S .kind) (eqb (row .mark) 1))
-    where
-      go : (kind : Kind) (b : Bool) → not b ≡ (b ⇒ false) && isOpen kind (S .hours) row 0
-      go Round true = refl
-      go Round false = refl
-      go Run true = refl
-      go Run false = refl
+  module _ (label : ℕ) (e : markAllows (row .mark) label ≡ true) where
+    pub allowed-heard : label ≤ 2 → isOpen (S .kind) (S .hours) row label ≡ isAllowed S row label
+    unfolding isAllowed
+    allowed-heard h = rw (le-leb label 2 h, e) refl
+
+    pub allowed-none : label ≡ 0 → true ≡ isAllowed S row label
+    allowed-none z = open-none (S .kind) ∙ allowed-heard (omega arith)
+      where
+        open-none : (kind : Kind) → true ≡ isOpen kind (S .hours) row label
+        open-none Round = refl
+        open-none Run = rw z refl
 
   -- ---- two rows
 

@@ -5,6 +5,7 @@ use mathlib.Core.List.{List}
 use lib.Dec.{leb, eqb}
 use lib.ListN.{length}
 use Rattle.basics.specs.Limits.{maxRows}
+use Rattle.marks.specs.Marks.{maxMark}
 use Rattle.window.specs.declared.Kind.{Kind}
 use Rattle.window.specs.declared.Kind.the-variants.{Round, Run}
 use Rattle.window.specs.declared.Row.{Row}
@@ -42,9 +43,9 @@ unfoldable pub settingRefusal : Setting → Refusal
 unfolding ticksRefusal hoursRefusal
 settingRefusal S = ticksRefusal (S .ticks) then hoursRefusal (S .kind) (S .ticks) (S .hours)
 
--- "6: a window breaks the rules above", "7: a mark above 1": one row, "for 6 and then 7"
+-- "6: a window breaks the rules above", "Refusal 7 now begins at mark 6" (request 2 of paper 02): one row, "for 6 and then 7"
 unfoldable pub rowRefusal : Setting → Row → Refusal
-rowRefusal S row = asked (isWindow (S .kind) (S .ticks) (row .start) (row .end)) Window then asked (leb (row .mark) 1) Mark
+rowRefusal S row = asked (isWindow (S .kind) (S .ticks) (row .start) (row .end)) Window then asked (leb (row .mark) maxMark) Mark
 
 abbrev pub looked : Refusal → ℕ → Looked
 looked r n = record { refusal = r; rows = n }

@@ -2,3 +2,4 @@
 pub mod Tables
 pub mod Checks
 pub mod Planned
+pub mod Former

@@ -10,6 +10,7 @@ use Rattle.basics.specs.Limits.{maxRows}
 use Rattle.basics.specs.Lists.{at}
 use Rattle.basics.specs.Tests.{_⇒_, every}
 use Rattle.labels.specs.Labels.{Assignment}
+use Rattle.marks.specs.Marks.{Must, Receiver1Only, Receiver2Only, maxMark, markAllows}
 use Rattle.window.specs.declared.Kind.{Kind}
 use Rattle.window.specs.declared.Kind.the-variants.{Round, Run}
 use Rattle.window.specs.declared.Row.{Row}
@@ -56,10 +57,13 @@ Open Round hours row label = Unit {0}
 Open Run hours row zero = Unit {0}
 Open Run hours row (suc r) = (hour hours r 0 ≤ row .start) × (row .end ≤ hour hours r 1)
 
--- What a plan asks of a row's label: it is "0, 1 or 2", "every row marked must has 1 or 2", "in a run each heard row lies in its receiver's hours".
+-- What a plan asks of a row's label: it is "0, 1 or 2", "every row marked must has 1 or 2", "labels that use the wrong receiver are no plan" (request 2 of paper 02),
+-- "in a run each heard row lies in its receiver's hours".
 pub record Allowed (S : Setting) (row : Row) (label : ℕ) : Type 0 where
   pub known : label ≤ 2
-  pub must : row .mark ≡ 1 → label ≢ 0
+  pub must : Must (row .mark) → label ≢ 0
+  pub receiver-1 : Receiver1Only (row .mark) → label ≢ 2
+  pub receiver-2 : Receiver2Only (row .mark) → label ≢ 1
   pub hours : Open (S .kind) (S .hours) row label
 
 -- two rows cannot be heard by one receiver: their windows overlap
@@ -79,7 +83,7 @@ pub record ValidSetting (S : Setting) : Type 0 where
 
 pub record ValidRow (S : Setting) (row : Row) : Type 0 where
   pub window : Window (S .kind) (S .ticks) (row .start) (row .end)
-  pub mark : row .mark ≤ 1
+  pub mark : row .mark ≤ maxMark
 
 pub record Valid (t : Table) : Type 0 where
   pub few : rows t ≤ maxRows
@@ -96,10 +100,8 @@ isOpen Run hours row zero = true
 isOpen Run hours row (suc r) = leb (hour hours r 0) (row .start) && leb (row .end) (hour hours r 1)
 
 unfoldable pub isAllowed : Setting → Row → ℕ → Bool
-isAllowed S row label =
-    leb label 2
-    && (eqb (row .mark) 1 ⇒ not (eqb label 0))
-    && isOpen (S .kind) (S .hours) row label
+unfolding markAllows
+isAllowed S row label = leb label 2 && markAllows (row .mark) label && isOpen (S .kind) (S .hours) row label
 
 unfoldable pub clashes : Setting → Row → Row → Bool
 unfolding overlaps

@@ -6,6 +6,7 @@ ghost use Rattle.table.specs.Checks.{lengthsRefusal, ticksRefusal, isHou
 use crate::Looked;
 use crate::Setting;
 use basics::MAX_ROWS;
+use marks::MAX_MARK;
 use refusals::Refusal;
 use window::Kind;
 use window::Row;
@@ -90,7 +91,7 @@ pub fn check_row(setting: Setting, row: Row) -> Refusal
     if !window::is_window(kind, setting.ticks, row.start, row.end) {
         return Refusal::Window;
     }
-    if 1 < row.mark {
+    if MAX_MARK < row.mark {
         return Refusal::Mark;
     }
     Refusal::Accepted

@@ -34,8 +34,11 @@ pub fn is_allowed(setting: Setting, row: Row, label: u8) -> bool
     if 2 < label {
         return false;
     }
+    if !marks::allows(row.mark, label) {
+        return false;
+    }
     if label == 0 {
-        return row.mark != 1;
+        return true;
     }
     is_open(setting, row, label)
 }

@@ -1,0 +1,3 @@
+-- Theorems about marks.
+pub mod Allowing
+pub mod Listed

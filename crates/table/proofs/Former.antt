@@ -1,0 +1,84 @@
+-- Tables that do not use what a request of paper 02 brought keep their plans, and so a call gives what it gave.
+use Prim.Native.Nat.{ℕ, zero, suc, _≤_, _<_}
+use mathlib.Core.Path.{_≡_, refl, sym, _∙_}
+use mathlib.Core.Logic.{_↔_, inl, ⊎-elim, Iff·rfl, Iff·symm}
+use mathlib.Core.List.{List}
+use mathlib.Core.Option.{Option, none, some}
+use native.Mathlib.Omega.{arith}
+use borrow.Author.Tests.{le-leb}
+use Rattle.labels.proofs.Best.{best-iff, assignment-iff}
+use Rattle.window.specs.declared.Kind.{Kind}
+use Rattle.window.specs.declared.Kind.the-variants.{Round, Run}
+use Rattle.marks.specs.Marks.{maxMark}
+use Rattle.window.specs.declared.Row.{Row}
+use Rattle.refusals.proofs.Refusals.{Passed}
+use Rattle.table.specs.declared.Setting.{Setting}
+use Rattle.table.specs.Tables.{Table, rows, rowAt, Open, Allowed, Clash, Plan, Valid}
+use Rattle.table.specs.Checks.{rowRefusal}
+use Rattle.table.specs.Planned.{Planned, checked, bestPlan, planned}
+use Rattle.table.specs.Former.{PlannedBy, OpenBefore2, AllowedBefore2, PlanBefore2, rowRefusalBefore2, OnlyMarks01}
+use Rattle.table.proofs.Checked.{checked-valid}
+use Rattle.table.proofs.Rivals.{best-plan, no-plan, only-best, only-none}
+
+-- ---- where the plans are those of another definition, a call gives what that definition makes right, and nothing else does
+
+module _ (t : Table) (before : List ℕ) (space : ℕ) (p : Passed (checked t before space)) (C : List ℕ → Type 0) (plans : (l : List ℕ) → Plan t l ↔ C l) where
+  pub planned-by : PlannedBy C before (planned t before space)
+  planned-by =
+      record {
+        best = λ labels b. only-best t before space p labels (best-iff (λ l. Iff·symm (plans l)) b);
+        none = λ n. only-none t before space p (λ rival P. n rival (plans rival .0 P));
+      }
+
+  pub planned-only : (gave : Planned) → PlannedBy C before gave → gave ≡ planned t before space
+  planned-only gave g = go (bestPlan t) refl
+    where
+      valid : Valid t
+      valid = checked-valid t before space p .0
+
+      go : (o : Option (List ℕ)) → bestPlan t ≡ o → gave ≡ planned t before space
+      go none e =
+          let n = no-plan t valid .0 e in
+          g .none (λ rival c. n rival (plans rival .1 c)) ∙ sym (only-none t before space p n)
+      go (some a) e =
+          let b = best-plan t valid a .0 e in
+          g .best a (best-iff plans b) ∙ sym (only-best t before space p a b)
+
+-- ---- request 2
+
+open-kept-2 : (kind : Kind) (hours : List (List ℕ)) (row : Row) (x : ℕ) → Open kind hours row x ↔ OpenBefore2 kind hours row x
+open-kept-2 Round hours row x = Iff·rfl
+open-kept-2 Run hours row zero = Iff·rfl
+open-kept-2 Run hours row (suc r) = Iff·rfl
+
+module _ (S : Setting) (row : Row) (h : row .mark ≤ 1) where
+  pub allowed-kept-2 : (x : ℕ) → Allowed S row x ↔ AllowedBefore2 S row x
+  allowed-kept-2 x =
+      let o = open-kept-2 (S .kind) (S .hours) row x in (
+        λ a. record { known = a .known; must = λ e. a .must (inl e); hours = o .0 (a .hours) },
+        λ a. record {
+          known = a .known;
+          must = ⊎-elim (a .must) (⊎-elim (λ e. absurd (omega arith)) (λ e. absurd (omega arith)));
+          receiver-1 = ⊎-elim (λ e. absurd (omega arith)) (λ e. absurd (omega arith));
+          receiver-2 = ⊎-elim (λ e. absurd (omega arith)) (λ e. absurd (omega arith));
+          hours = o .1 (a .hours);
+        },
+      )
+
+  -- checks 6 and 7 of such a row
+  pub row-check-kept-2 : rowRefusal S row ≡ rowRefusalBefore2 S row
+  unfolding rowRefusal rowRefusalBefore2
+  row-check-kept-2 = rw (le-leb (row .mark) 1 h, le-leb (row .mark) maxMark (omega arith)) refl
+
+module _ (t : Table) (old : OnlyMarks01 t) where
+  -- "TABLES WITH ONLY 0 AND 1 KEEP THEIR PLANS",
+  pub plans-kept-2 : (l : List ℕ) → Plan t l ↔ PlanBefore2 t l
+  plans-kept-2 = assignment-iff (rows t) (λ i x h. allowed-kept-2 (t .setting) (rowAt t i) (old i h) x) (λ i j h k d. Iff·rfl)
+
+  -- and so the planner gives what it gave
+  module _ (before : List ℕ) (space : ℕ) (p : Passed (checked t before space)) where
+    pub planned-kept-2 : PlannedBy (PlanBefore2 t) before (planned t before space)
+    planned-kept-2 = planned-by t before space p (PlanBefore2 t) plans-kept-2
+
+    pub planned-only-2 : (gave : Planned) → PlannedBy (PlanBefore2 t) before gave → gave ≡ planned t before space
+    planned-only-2 = planned-only t before space p (PlanBefore2 t) plans-kept-2
