@@ -1,5 +1,5 @@
-// A brute force of paper 01: the best plan of a table of at most 7 rows on at most 64 ticks, by walking ticks and trying every label list.
-// It is what the planner is compared with, so it is written from the paper alone and uses no other crate of the product.
+// A brute force of the papers: the best plan of a table of at most 7 rows on at most 64 ticks, by walking ticks and trying every label list.
+// It is what the planner is compared with, so it is written from the papers alone and uses no other crate of the product.
 pub mod plans;
 pub mod random;
 pub mod windows;

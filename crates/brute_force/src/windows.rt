@@ -1,4 +1,4 @@
-// Which ticks a window covers, and which labels its row may have, as paper 01 says it.
+// Which ticks a window covers, and which labels its row may have, as paper 01 and request 2 of paper 02 say it.
 // A set of ticks is a number whose bit t says that tick t, below 64, is in it.
 
 pub enum Kind {
@@ -74,9 +74,18 @@ pub fn arc_sets(ticks: u16, starts: &[u16; 8], lengths: &[u16; 8]) -> [u64; 8] {
     sets
 }
 
-// The permission not to be heard, bit 0: every row has it but those "marked must".
-fn unheard(mark: u8) -> u8 {
-    if mark == 1 { 0 } else { 1 }
+// The labels that a mark leaves a row, as bits: bit 0 for not heard, bit 1 for receiver 1, bit 2 for receiver 2.
+// "0 and 1 as before, 2 and 3 may and must on receiver 1 only, 4 and 5 may and must on receiver 2 only."
+fn marked(mark: u8) -> u8 {
+    match mark {
+        0 => 7,
+        1 => 6,
+        2 => 3,
+        3 => 2,
+        4 => 5,
+        5 => 4,
+        _ => 0,
+    }
 }
 
 // "A receiver can take a window only if p <= start and end <= q": then `receiver`, its bit, is permitted.
@@ -89,16 +98,20 @@ fn taken(opening: u16, closing: u16, start: u16, end: u16, receiver: u8) -> u8 {
     0
 }
 
-// A row's permitted labels: bit 0 for not heard, bit 1 for receiver 1, bit 2 for receiver 2. "In a round both receivers are always open."
-pub fn permission(kind: Kind, start: u16, end: u16, mark: u8, hours: [[u16; 2]; 2]) -> u8 {
+// The receivers that can take a window, by their bits. "In a round both receivers are always open."
+fn receivers(kind: Kind, start: u16, end: u16, hours: [[u16; 2]; 2]) -> u8 {
     match kind {
-        Kind::Round => unheard(mark) | 6,
+        Kind::Round => 6,
         Kind::Run => {
-            unheard(mark)
-                | taken(hours[0][0], hours[0][1], start, end, 2)
+            taken(hours[0][0], hours[0][1], start, end, 2)
                 | taken(hours[1][0], hours[1][1], start, end, 4)
         }
     }
+}
+
+// A row's permitted labels: what its mark leaves it, of not being heard and the receivers that can take its window.
+pub fn permission(kind: Kind, start: u16, end: u16, mark: u8, hours: [[u16; 2]; 2]) -> u8 {
+    marked(mark) & (1 | receivers(kind, start, end, hours))
 }
 
 pub fn window_permissions(

@@ -97,12 +97,14 @@ fn run_windows(group: Group) -> Group {
     run_row(g, 99, 65535, 0, 6, &[])
 }
 
-// "A mark above 1."
+// "Refusal 7 now begins at mark 6" (request 2 of paper 02).
 fn marks(group: Group) -> Group {
     let mut g = round_row(group, 10, 20, 1, 0, &[1]);
-    g = round_row(g, 10, 20, 2, 7, &[]);
+    g = round_row(g, 10, 20, 5, 0, &[2]);
+    g = round_row(g, 10, 20, 6, 7, &[]);
     g = round_row(g, 10, 20, 255, 7, &[]);
-    g = run_row(g, 10, 20, 2, 7, &[]);
+    g = run_row(g, 10, 20, 5, 0, &[2]);
+    g = run_row(g, 10, 20, 6, 7, &[]);
     run_row(g, 10, 20, 255, 7, &[])
 }
 

@@ -72,7 +72,7 @@ fn untouched(group: Group) -> Group {
     g = with_case(g, faulty(43201, 0, 10, 4, LENT_BYTES, 4, &[]));
     g = with_case(g, in_hours(51, 0, 5, &[]));
     g = with_case(g, faulty(100, 0, 90, 4, LENT_BYTES, 6, &[]));
-    with_case(g, faulty(100, 2, 10, 4, LENT_BYTES, 7, &[]))
+    with_case(g, faulty(100, 6, 10, 4, LENT_BYTES, 7, &[]))
 }
 
 // A plan and refusal 8 clear the first 16,384 bytes and no others; refusal 8 leaves the labels as they were.
@@ -80,6 +80,7 @@ fn cleared(group: Group) -> Group {
     let mut g = with_case(group, faulty(100, 1, 10, 4, LENT_BYTES, 8, &[]));
     g = with_case(g, faulty(100, 1, 10, 4, 16384, 8, &[]));
     g = with_case(g, in_hours(0, 1, 8, &[]));
+    g = with_case(g, in_hours(0, 5, 8, &[]));
     g = with_case(g, faulty(100, 0, 10, 4, LENT_BYTES, 0, &[1, 2, 0, 1]));
     g = with_case(g, faulty(100, 0, 10, 4, 16384, 0, &[1, 2, 0, 1]));
     with_case(g, in_hours(0, 0, 0, &[1, 0]))

@@ -1,8 +1,9 @@
 -- Laws of marks: what the tests say, and which labels a mark allows, label by label.
-use Prim.Native.Nat.{ℕ}
+use Prim.Native.Nat.{ℕ, _≤_}
 use mathlib.Core.Path.{_≡_, refl}
-use mathlib.Core.Logic.{_≢_, _↔_}
+use mathlib.Core.Logic.{_≢_, _↔_, ⊎-elim}
 use mathlib.Core.Bool.{Bool, true, false, not, _&&_, and-true}
+use native.Mathlib.Omega.{arith}
 use borrow.Author.Tests.{ne-eqb}
 use lib.Dec.{eqb}
 use Rattle.basics.specs.Tests.{_⇒_}
@@ -33,6 +34,17 @@ module _ (mark : ℕ) where
       and-iff
       (and-iff (imp-iff must-iff (not-iff (eqb-iff x 0))) (imp-iff receiver-1-iff (not-iff (eqb-iff x 2))))
       (imp-iff receiver-2-iff (not-iff (eqb-iff x 1)))
+
+  -- ---- the least mark that says so
+
+  pub must-least : Must mark → 1 ≤ mark
+  must-least = ⊎-elim (λ e. omega arith) (⊎-elim (λ e. omega arith) (λ e. omega arith))
+
+  pub receiver-1-least : Receiver1Only mark → 2 ≤ mark
+  receiver-1-least = ⊎-elim (λ e. omega arith) (λ e. omega arith)
+
+  pub receiver-2-least : Receiver2Only mark → 4 ≤ mark
+  receiver-2-least = ⊎-elim (λ e. omega arith) (λ e. omega arith)
 
   -- ---- label by label
 

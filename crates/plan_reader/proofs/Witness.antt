@@ -9,6 +9,7 @@ use Rattle.basics.specs.Limits.{maxRows}
 use Rattle.basics.specs.Lists.{at}
 use Rattle.window.specs.Hours.{hoursFrom}
 use Rattle.window.proofs.Meaning.{window-end}
+use Rattle.marks.proofs.Allowing.{must-least, receiver-1-least, receiver-2-least}
 use Rattle.table.specs.Tables.{settingOf, Table, table, rowAt, Plan, Valid}
 use Rattle.plan_tape.specs.PlanTapes.{rowsOf}
 use Rattle.plan_tape.specs.Stated.{Listen, listenOf, Stated}
@@ -98,9 +99,12 @@ module _ (s : Stated) where
           allowed = λ i h.
               let l : i < maxRows = omega (arith, each-start) in
               let low : at labels i ≤ 2 = rw (label-at i l) (known s J (place s i)) in
+              let unmarked = tabled-at (λ i. 0) maxRows i l in
               record {
                 known = low;
-                must = λ e. omega (arith, tabled-at (λ i. 0) maxRows i l);
+                must = λ e. omega (arith, must-least _ e);
+                receiver-1 = λ e. omega (arith, receiver-1-least _ e);
+                receiver-2 = λ e. omega (arith, receiver-2-least _ e);
                 hours = opened (s .kind) (s .ticks) (rowAt witness i) (at labels i) low (window-end (s .kind) (s .ticks) (at starts i) (at ends i) (witness-valid .row i h .window));
               };
           apart = λ i j h k d n e o.

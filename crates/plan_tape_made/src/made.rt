@@ -205,14 +205,45 @@ fn labels_of(
     labels
 }
 
-fn mark_of(label: u8, seed: u64) -> u8 {
-    if label == 0 {
-        return 0;
+// Marks that allow a row not to be heard.
+fn mark_of_unheard(draw: u64) -> u8 {
+    match draw {
+        0 => 2,
+        1 => 4,
+        _ => 0,
     }
-    if below(seed, 3) == 0 { 1 } else { 0 }
 }
 
-// One heard row in three must be heard.
+// Marks that allow receiver 1.
+fn mark_of_first(draw: u64) -> u8 {
+    match draw {
+        0 => 1,
+        1 => 2,
+        2 => 3,
+        _ => 0,
+    }
+}
+
+// Marks that allow receiver 2.
+fn mark_of_second(draw: u64) -> u8 {
+    match draw {
+        0 => 1,
+        1 => 4,
+        2 => 5,
+        _ => 0,
+    }
+}
+
+fn mark_of(label: u8, seed: u64) -> u8 {
+    let draw = below(seed, 6);
+    match label {
+        0 => mark_of_unheard(draw),
+        1 => mark_of_first(draw),
+        _ => mark_of_second(draw),
+    }
+}
+
+// Marks of 0 to 5 that allow the labels; half of the heard rows have mark 0.
 fn marks_of(labels: &[u8; 65], seed: u64) -> [u8; 65] {
     let mut marks = [0u8; 65];
     let mut now = seed;

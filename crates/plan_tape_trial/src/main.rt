@@ -239,14 +239,14 @@ fn run_session() {
     run_call(0, as_run(30));
 }
 
-// Three labels for four rows, 65 rows, R 1, hours past R, an empty window, a mark 2.
+// Three labels for four rows, 65 rows, R 1, hours past R, an empty window, a mark 6.
 fn run_refused() {
     run_call(1, as_round(100, 4, 3, 400));
     run_call(2, as_round(100, 65, 65, 400));
     run_call(4, as_round(1, 4, 4, 400));
     run_call(5, as_run(101));
     run_call(6, with_row_2(25, 0, 0));
-    run_call(7, with_row_2(50, 2, 0));
+    run_call(7, with_row_2(50, 6, 0));
 }
 
 // Labels of P2 with a 3 in them, a must row left out, an overlap on receiver 1, a row past its receiver's hours.

@@ -1,6 +1,10 @@
 // Small tables whose answers are compared with those of the brute force, and of how many of them each fact holds.
+use crate::decided;
+use crate::decided::Decided;
 use crate::drawn;
 use crate::drawn::Table;
+use crate::searched::found;
+use crate::searched::pairs;
 use brute_force::plans::Found;
 use brute_force::plans::changed;
 use trial_calls::LENT_BYTES;
@@ -10,48 +14,22 @@ use trial_calls::is_planned;
 use trial_report::more;
 use window::Kind;
 
-pub const TABLES: u32 = 8000;
+pub const TABLES: u32 = 24000;
 
 // Of how many tables each fact holds, and the state of the sequence.
 pub struct Tally {
     pub none: u32,
-    pub must: u32,
     pub hours: u32,
     pub crossing: u32,
     pub tied: u32,
+    pub rounds: Decided,
+    pub runs: Decided,
     pub differ: u32,
     state: u64,
 }
 
 fn kind_of(run: bool) -> Kind {
     if run { Kind::Run } else { Kind::Round }
-}
-
-fn brute_kind_of(run: bool) -> brute_force::windows::Kind {
-    if run {
-        brute_force::windows::Kind::Run
-    } else {
-        brute_force::windows::Kind::Round
-    }
-}
-
-fn pairs(hours: [u16; 4]) -> [[u16; 2]; 2] {
-    [[hours[0], hours[1]], [hours[2], hours[3]]]
-}
-
-// What the brute force finds with marks and hours that need not be the table's.
-fn found(t: Table, marks: &[u8; 8], hours: [u16; 4]) -> Found {
-    let starts = t.starts;
-    let ends = t.ends;
-    brute_force::best_plan(
-        brute_kind_of(t.run),
-        t.ticks,
-        t.rows,
-        &starts,
-        &ends,
-        marks,
-        pairs(hours),
-    )
 }
 
 // The number of the answer: refusal 8 if there is no plan.
@@ -120,14 +98,16 @@ fn with_table(tally: Tally) -> Tally {
     let ticks = t.ticks;
     let right = found(t, &marks, hours);
     let labels = right.labels;
-    let no_must = found(t, &[0u8; 8], hours);
     let all_day = found(t, &marks, [0, ticks, 0, ticks]);
+    let rounds = tally.rounds;
+    let runs = tally.runs;
     Tally {
         none: more(tally.none, right.answer == 0),
-        must: more(tally.must, changed(right, no_must)),
         hours: more(tally.hours, changed(right, all_day)),
         crossing: more(tally.crossing, 1 < crossing(t, &labels)),
         tied: more(tally.tied, 1 < right.best),
+        rounds: decided::of_kind(rounds, t, false, right),
+        runs: decided::of_kind(runs, t, true, right),
         differ: more(tally.differ, !is_found(t, right)),
         state: t.state,
     }
@@ -137,10 +117,11 @@ fn with_table(tally: Tally) -> Tally {
 pub fn tables() -> Tally {
     let mut tally = Tally {
         none: 0,
-        must: 0,
         hours: 0,
         crossing: 0,
         tied: 0,
+        rounds: decided::nothing(),
+        runs: decided::nothing(),
         differ: 0,
         state: 149,
     };

@@ -64,9 +64,17 @@ fn draw_ends(
     s
 }
 
-// One row in four is must.
+// Half of the rows have mark 0, the others a mark from 1 to 5.
 fn mark(state: u64) -> u8 {
-    if below(state, 4) == 0 { 1 } else { 0 }
+    let n = below(state, 10);
+    match n {
+        5 => 1,
+        6 => 2,
+        7 => 3,
+        8 => 4,
+        9 => 5,
+        _ => 0,
+    }
 }
 
 fn draw_marks(list: &mut [u8; 8], state: u64) -> u64 {

@@ -1,7 +1,7 @@
 -- Tables that do not use what a request of paper 02 brought keep their plans, and so a call gives what it gave.
 use Prim.Native.Nat.{ℕ, zero, suc, _≤_, _<_}
 use mathlib.Core.Path.{_≡_, refl, sym, _∙_}
-use mathlib.Core.Logic.{_↔_, inl, ⊎-elim, Iff·rfl, Iff·symm}
+use mathlib.Core.Logic.{_↔_, inl, Iff·rfl, Iff·symm}
 use mathlib.Core.List.{List}
 use mathlib.Core.Option.{Option, none, some}
 use native.Mathlib.Omega.{arith}
@@ -10,6 +10,7 @@ use Rattle.labels.proofs.Best.{best-iff, assignment-iff}
 use Rattle.window.specs.declared.Kind.{Kind}
 use Rattle.window.specs.declared.Kind.the-variants.{Round, Run}
 use Rattle.marks.specs.Marks.{maxMark}
+use Rattle.marks.proofs.Allowing.{must-least, receiver-1-least, receiver-2-least}
 use Rattle.window.specs.declared.Row.{Row}
 use Rattle.refusals.proofs.Refusals.{Passed}
 use Rattle.table.specs.declared.Setting.{Setting}
@@ -58,9 +59,9 @@ module _ (S : Setting) (row : Row) (h : row .mark ≤ 1) where
         λ a. record { known = a .known; must = λ e. a .must (inl e); hours = o .0 (a .hours) },
         λ a. record {
           known = a .known;
-          must = ⊎-elim (a .must) (⊎-elim (λ e. absurd (omega arith)) (λ e. absurd (omega arith)));
-          receiver-1 = ⊎-elim (λ e. absurd (omega arith)) (λ e. absurd (omega arith));
-          receiver-2 = ⊎-elim (λ e. absurd (omega arith)) (λ e. absurd (omega arith));
+          must = λ e. a .must (omega (arith, must-least (row .mark) e));
+          receiver-1 = λ e. absurd (omega (arith, receiver-1-least (row .mark) e));
+          receiver-2 = λ e. absurd (omega (arith, receiver-2-least (row .mark) e));
           hours = o .1 (a .hours);
         },
       )

@@ -21,6 +21,15 @@ pub fn print(words: &[u8], n: u32) {
     io::write_all(1, b"\n");
 }
 
+// A line of words and two numbers.
+pub fn print_two(words: &[u8], n: u32, words2: &[u8], n2: u32) {
+    io::write_all(1, words);
+    io::print_decimal(1, n as u64);
+    io::write_all(1, words2);
+    io::print_decimal(1, n2 as u64);
+    io::write_all(1, b"\n");
+}
+
 // The cases of a group that were run, and how many of them differ from what is right.
 pub struct Group {
     pub cases: u32,

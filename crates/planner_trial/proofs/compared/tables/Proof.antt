@@ -8,7 +8,13 @@ abbrev Inv-loop : tie.InvT-loop
 Inv-loop tally₀ turn₀ tally turn = Unit {0}
 
 abbrev μ-loop : tie.MeasureT-loop
-μ-loop tally₀ turn₀ tally turn = 8000 - turn
+μ-loop tally₀ turn₀ tally turn = 24000 - turn
+
+nothing-requires : tie.Need-nothing-requires Inv-loop μ-loop
+nothing-requires c κs = tt
+
+nothing-requires-2 : tie.Need-nothing-requires-2 Inv-loop μ-loop
+nothing-requires-2 c κs = tt
 
 loop-holds : tie.Need-loop-holds Inv-loop μ-loop
 loop-holds c = tt
@@ -31,4 +37,4 @@ returns c = tt
 pub tables-spec : {M : Type 1} → statement M
 tables-spec =
     tie.close
-    (tie.spec Inv-loop μ-loop loop-holds with-table-requires add-turn loop-less loop-again returns)
+    (tie.spec Inv-loop μ-loop nothing-requires nothing-requires-2 loop-holds with-table-requires add-turn loop-less loop-again returns)
