@@ -27,7 +27,7 @@ enum hub_refusal {
     HUB_TICKS = 4,      /* ticks outside 2 to 43,200 */
     HUB_HOURS = 5,      /* open hours wrong: p above q, or q above ticks (run only) */
     HUB_WINDOW = 6,     /* a window breaks the rules: in a round start and end below ticks and different, in a run start below end and end at most ticks */
-    HUB_MARK = 7,       /* a mark above 1 */
+    HUB_MARK = 7,       /* a mark above 5 */
     HUB_NO_PLAN = 8,    /* no plan exists */
     HUB_NOT_PLAN = 9,   /* labels offered to the writer are not a plan */
     HUB_BUFFER = 10,    /* plan tape buffer shorter than the tape */
@@ -44,13 +44,24 @@ enum {
     HUB_REPLY_BYTES = 400       /* room that hub_reply asks for */
 };
 
+/* The mark of a row: whether it may or must be heard, and by which receivers; so, which labels it can have in a plan. */
+enum hub_mark {
+    HUB_MAY = 0,    /* may be heard, by either receiver: label 0, 1 or 2 */
+    HUB_MUST = 1,   /* must be heard, by either receiver: label 1 or 2 */
+    HUB_MAY_1 = 2,  /* may be heard, by receiver 1 only: label 0 or 1 */
+    HUB_MUST_1 = 3, /* must be heard, by receiver 1 only: label 1 */
+    HUB_MAY_2 = 4,  /* may be heard, by receiver 2 only: label 0 or 2 */
+    HUB_MUST_2 = 5  /* must be heard, by receiver 2 only: label 2 */
+};
+
 /* What a call reports: the refusal, and the count, which is 0 on a refusal. */
 struct hub_answer {
     uint8_t refusal;
     size_t count;
 };
 
-/* Plans a round of `ticks` ticks. A table is starts, ends and marks (0 may, 1 must be heard), a row at each place.
+/* Plans a round of `ticks` ticks. A table is starts, ends and marks, a row at each place. What a mark says (enum hub_mark) is part of what a plan is: 0 may and 1 must be
+ * heard, by either receiver; 2 may and 3 must be heard, by receiver 1 only; 4 may and 5 must be heard, by receiver 2 only.
  *
  * Accepted: labels are the plan with the most heard rows (label 1 or 2, the receiver; 0 is not heard), and of those the one that comes first in paper 01's order; no
  * other list of labels that is a plan hears more. The count is the number of labels that are 1 or 2. The first HUB_SPACE_BYTES of the working space are cleared to
@@ -105,9 +116,9 @@ struct hub_report {
     size_t rows;
 };
 
-/* Reads a fleet tape into lists of 64 places each. It takes exactly the tapes of paper 01's form with up to 64 rows, and judges the form alone: the planner judges the
- * values. Accepted: starts, ends and marks hold the rows of the tape at the first places, the other places are untouched. On a refusal all places are untouched.
- * Order: 1, 11, 2. */
+/* Reads a fleet tape into lists of 64 places each. It takes exactly the tapes of paper 01's form, with paper 02's commands 42 to 45 for rows too, that have up to 64 rows,
+ * and judges the form alone: the planner judges the values. Accepted: starts, ends and marks hold the rows of the tape at the first places (commands 40 to 45 hexadecimal
+ * give marks 0 to 5), the other places are untouched. On a refusal all places are untouched. Order: 1, 11, 2. */
 struct hub_report hub_read_fleet(const uint8_t *tape, size_t tape_length,
                                  uint16_t *starts, size_t starts_length,
                                  uint16_t *ends, size_t ends_length,

@@ -1,5 +1,5 @@
-/* Tests include/hubplan.h by itself: every function is called as the header declares it, on paper 01's session, on runs with unequal hours, at each limit and for each
- * refusal, and every constant, field and parameter is compared with the papers'. The numbers here are the papers', since the header's constants are what is tested.
+/* Tests include/hubplan.h by itself: every function is called as the header declares it, on paper 01's session, on runs with unequal hours, with each mark, at each limit
+ * and for each refusal, and every constant, field and parameter is compared with the papers'. The numbers here are the papers', since the header's constants are what is tested.
  *
  *   gcc -std=c99 -Wall -Wextra -Wpedantic -Werror -Iinclude tests/header.c target/staticlib/libhub_c.a -o target/header && target/header
  */
@@ -265,9 +265,10 @@ static void put_word(struct fleet *f, unsigned word)
     f->bytes[f->length++] = (uint8_t)(word & 255);
 }
 
-static void put_row(struct fleet *f, bool must, unsigned start, unsigned end)
+/* 40 to 45 are the commands of rows with marks 0 to 5. */
+static void put_row(struct fleet *f, unsigned mark, unsigned start, unsigned end)
 {
-    f->bytes[f->length++] = must ? 0x41 : 0x40;
+    f->bytes[f->length++] = (uint8_t)(0x40 + mark);
     put_word(f, start);
     put_word(f, end);
 }
@@ -287,7 +288,7 @@ static struct fleet fleet_of(const struct lent *t)
         put_word(&f, t->q2);
     }
     for (size_t i = 0; i < t->starts_length; i++)
-        put_row(&f, t->marks[i] == 1, t->starts[i], t->ends[i]);
+        put_row(&f, t->marks[i], t->starts[i], t->ends[i]);
     f.bytes[f.length++] = 0x7F;
     return f;
 }
@@ -297,7 +298,7 @@ static struct fleet long_fleet(size_t rows)
 {
     struct fleet f = {{0x10, 0, 100}, 3};
     for (size_t i = 0; i < rows; i++)
-        put_row(&f, false, 0, 1);
+        put_row(&f, 0, 0, 1);
     f.bytes[f.length++] = 0x7F;
     return f;
 }
@@ -454,6 +455,9 @@ static void constants(void)
 {
     for (unsigned i = 0; i < 14; i++)
         check("a refusal", "its constant is the papers' number", refusals[i] == i);
+    check("marks", "for either receiver", HUB_MAY == 0 && HUB_MUST == 1);
+    check("marks", "for receiver 1 only", HUB_MAY_1 == 2 && HUB_MUST_1 == 3);
+    check("marks", "for receiver 2 only", HUB_MAY_2 == 4 && HUB_MUST_2 == 5);
     check("constants", "HUB_MOST_ROWS", HUB_MOST_ROWS == ROWS);
     check("constants", "HUB_SPACE_BYTES", HUB_SPACE_BYTES == SPACE);
     check("constants", "HUB_PLAN_TAPE_BYTES", HUB_PLAN_TAPE_BYTES == TAPE);
@@ -567,6 +571,135 @@ static void runs(void)
     end_group("runs");
 }
 
+/* A table of 10 ticks with the given marks, as text; in a run both receivers are open all the time. */
+static struct lent marked(bool run, uint16_t windows[][2], const char *marks)
+{
+    struct lent t = lend(run, strlen(marks), windows);
+    t.ticks = t.q1 = t.q2 = 10;
+    t.p1 = t.p2 = 0;
+    for (size_t i = 0; marks[i]; i++)
+        t.marks[i] = (uint8_t)(marks[i] - '0');
+    return t;
+}
+
+/* The reply that has these labels, given as text. */
+static const char *reply_with(const char *labels, char text[REPLY])
+{
+    size_t heard = 0;
+    for (size_t i = 0; labels[i]; i++)
+        heard += labels[i] != '0';
+    size_t length = (size_t)sprintf(text, "heard %zu\n", heard);
+    for (size_t i = 0; labels[i]; i++)
+        length += (size_t)sprintf(text + length, "%zu %c\n", i, labels[i]);
+    return text;
+}
+
+/* Worked examples: windows, marks and labels; no labels for refusal 8. */
+static void marks_planned(bool run)
+{
+    static uint16_t apart[3][2] = {{0, 2}, {4, 6}, {1, 5}}, chain[3][2] = {{0, 2}, {1, 4}, {3, 6}}, equal[2][2] = {{0, 2}, {0, 2}}, one[1][2] = {{1, 2}};
+    static const struct { uint16_t (*windows)[2]; const char *marks, *labels; } examples[] = {
+        {apart, "111", "112"}, {apart, "351", NULL},  {apart, "350", "120"}, {apart, "551", "221"}, {apart, "224", "112"}, {apart, "242", "120"},
+        {chain, "005", "212"}, {chain, "045", "102"}, {equal, "40", "21"},   {equal, "22", "10"},   {equal, "45", "02"},   {equal, "33", NULL},
+        {equal, "55", NULL},   {equal, "53", "21"},   {one, "0", "1"},       {one, "1", "1"},       {one, "2", "1"},       {one, "3", "1"},
+        {one, "4", "2"},       {one, "5", "2"}};
+    for (size_t e = 0; e < sizeof examples / sizeof *examples; e++) {
+        char what[60], text[REPLY];
+        const char *labels = examples[e].labels;
+        struct lent t = marked(run, examples[e].windows, examples[e].marks);
+        snprintf(what, sizeof what, "%s with marks %s", run ? "a run" : "a round", examples[e].marks);
+        if (labels) {
+            planned(what, &t, labels);
+            check(what, "the writer takes the plan", write_plan(&t).refusal == 0);
+            replied_to(what, &t, reply_with(labels, text), true);
+        } else {
+            plan_refused(what, &t, 8);
+            replied_to(what, &t, "refused 8\n", true);
+        }
+    }
+}
+
+/* One row with every mark: the planner refuses those from 6 on, and the writer takes exactly the labels that the mark allows. */
+static void every_mark(bool run)
+{
+    static const char *const allowed[6] = {"012", "12", "01", "1", "02", "2"};
+    static const uint8_t listen[6] = {0x30, 0, 0, 1, 0, 2};
+    uint16_t window[1][2] = {{1, 2}};
+    struct lent t = marked(run, window, "0");
+    for (unsigned mark = 0; mark < 256; mark++) {
+        char what[60];
+        t.marks[0] = (uint8_t)mark;
+        snprintf(what, sizeof what, "mark %u", mark);
+        if (mark > 5)
+            plan_refused(what, &t, 7);
+        for (unsigned label = 0; label < 4; label++) {
+            uint8_t bytes[14] = {run ? 0x11 : 0x10, 0, 10, 0x20, 1};
+            size_t length = 5;
+            t.labels[0] = (uint8_t)label;
+            snprintf(what, sizeof what, "mark %u and label %u", mark, label);
+            if (mark > 5 || !strchr(allowed[mark], (int)('0' + label))) {
+                write_refused(what, &t, mark > 5 ? 7 : 9);
+                continue;
+            }
+            if (label == 1)
+                memcpy(bytes + length, listen, 6), length += 6;
+            bytes[length++] = 0x20, bytes[length++] = 2;
+            if (label == 2)
+                memcpy(bytes + length, listen, 6), length += 6;
+            bytes[length++] = 0x7F;
+            written(what, &t, bytes, length);
+        }
+    }
+}
+
+/* A row with each mark, and the bytes on both sides of the commands of rows in the place of the first row and of the last. */
+static void marks_read(bool run)
+{
+    uint16_t windows[6][2] = {{0, 1}, {2, 3}, {4, 5}, {6, 7}, {8, 9}, {1, 0x0A09}};
+    struct lent t = marked(run, windows, "012345");
+    read_back("a row with each mark", &t);
+    for (size_t i = 0; i < 6; i += 5)
+        for (unsigned above = 0; above < 2; above++) {
+            struct fleet f = fleet_of(&t);
+            const char *what = above ? "46 in the place of a row" : "3F in the place of a row";
+            f.bytes[(run ? 12 : 3) + 5 * i] = above ? 0x46 : 0x3F;
+            read_refused(what, &f, fresh_places(), 11);
+            replied(what, &f, "refused 11\n", false);
+        }
+}
+
+/* A row for one receiver only, which is closed or the only one that is open. */
+static void marks_and_hours(void)
+{
+    uint16_t window[1][2] = {{1, 2}};
+    struct lent t = marked(true, window, "3");
+    t.q1 = 0;
+    plan_refused("mark 3, receiver 1 closed", &t, 8);
+    replied_to("mark 3, receiver 1 closed", &t, "refused 8\n", true);
+    t.marks[0] = 2;
+    planned("mark 2, receiver 1 closed", &t, "0");
+    t.marks[0] = 5;
+    planned("mark 5, receiver 1 closed", &t, "2");
+    t.q1 = 10, t.q2 = 0;
+    plan_refused("mark 5, receiver 2 closed", &t, 8);
+    replied_to("mark 5, receiver 2 closed", &t, "refused 8\n", true);
+    t.marks[0] = 4;
+    planned("mark 4, receiver 2 closed", &t, "0");
+    t.marks[0] = 3;
+    planned("mark 3, receiver 2 closed", &t, "1");
+}
+
+static void marks(void)
+{
+    for (int run = 0; run < 2; run++) {
+        marks_planned(run);
+        every_mark(run);
+        marks_read(run);
+    }
+    marks_and_hours();
+    end_group("marks");
+}
+
 /* Wrong in every way: mended one by one, the refusals come in the order that the header gives. */
 static struct lent all_wrong(bool run)
 {
@@ -574,7 +707,7 @@ static struct lent all_wrong(bool run)
     t.ticks = 1;
     t.p1 = 51;
     t.ends[0] = 0;
-    t.marks[0] = 9;
+    t.marks[0] = 6;
     for (size_t i = 1; i < 4; i++) /* three rows that must be heard at once, in the hours of both receivers */
         t.starts[i] = 45, t.ends[i] = 46, t.marks[i] = 1;
     return t;
@@ -890,6 +1023,7 @@ int main(void)
     parameters();
     rounds();
     runs();
+    marks();
     all_refusals();
     limits();
     replies();

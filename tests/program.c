@@ -1,5 +1,5 @@
-/* Makes the fleet tapes that tests/program runs `hubplan` on: KIND-NUMBER.tape and, with the reply of the proved function hub_reply, KIND-NUMBER.expected. Where paper
- * 01 says what the reply is, the proved function's is compared with that first.
+/* Makes the fleet tapes that tests/program runs `hubplan` on: KIND-NUMBER.tape and, with the reply of the proved function hub_reply, KIND-NUMBER.expected. Where the
+ * papers say what the reply is, the proved function's is compared with that first.
  *
  *   program make FOLDER     makes the tapes
  *   program drip TAPE       writes a tape to a pipe byte by byte, each when the one before has been read
@@ -16,6 +16,10 @@
 
 #define WINDOW 0x40
 #define MUST 0x41
+#define WINDOW1 0x42 /* for receiver 1 only */
+#define MUST1 0x43
+#define WINDOW2 0x44 /* for receiver 2 only */
+#define MUST2 0x45
 #define STOP 0x7F
 
 struct tape {
@@ -215,7 +219,55 @@ static struct tape one_window(unsigned ticks, unsigned start, unsigned end)
     return t;
 }
 
-/* The replies of the planner's refusals, with the nearest tapes that are taken. A tape has no mark above 1, so 7 cannot come. */
+/* A round of 10 ticks with up to three rows: a command and a window each. */
+static struct tape few_rows(size_t rows, const unsigned commands[], const unsigned windows[][2])
+{
+    struct tape t = round_of(10);
+    for (size_t i = 0; i < rows; i++)
+        put_row(&t, commands[i], windows[i][0], windows[i][1]);
+    return t;
+}
+
+/* Rows that one receiver alone can hear, and the bytes on both sides of the commands of rows. */
+static void marks(void)
+{
+    static const unsigned apart[3][2] = {{0, 2}, {4, 6}, {1, 5}}, chain[3][2] = {{0, 2}, {1, 4}, {3, 6}}, equal[2][2] = {{0, 2}, {0, 2}};
+    static const struct {
+        size_t rows;
+        unsigned commands[3];
+        const unsigned (*windows)[2];
+        const char *reply;
+    } examples[] = {
+        {3, {MUST, MUST, MUST}, apart, "heard 3\n0 1\n1 1\n2 2\n"},
+        {3, {MUST1, MUST2, MUST}, apart, "refused 8\n"},
+        {3, {MUST1, MUST2, WINDOW}, apart, "heard 2\n0 1\n1 2\n2 0\n"},
+        {3, {MUST2, MUST2, MUST1}, apart, "heard 3\n0 2\n1 2\n2 1\n"},
+        {3, {WINDOW, WINDOW, MUST2}, chain, "heard 3\n0 2\n1 1\n2 2\n"},
+        {3, {WINDOW, WINDOW2, MUST2}, chain, "heard 2\n0 1\n1 0\n2 2\n"},
+        {2, {WINDOW2, WINDOW}, equal, "heard 2\n0 2\n1 1\n"},
+        {2, {WINDOW1, WINDOW1}, equal, "heard 1\n0 1\n1 0\n"},
+        {2, {WINDOW2, MUST2}, equal, "heard 1\n0 0\n1 2\n"},
+        {2, {MUST1, MUST1}, equal, "refused 8\n"},
+        {2, {MUST2, MUST2}, equal, "refused 8\n"},
+    };
+    /* one row alone, by its command: with both receivers open, and with receiver 1 or 2 closed */
+    static const char *const replies[6][3] = {
+        {"heard 1\n0 1\n", "heard 1\n0 2\n", "heard 1\n0 1\n"}, {"heard 1\n0 1\n", "heard 1\n0 2\n", "heard 1\n0 1\n"},
+        {"heard 1\n0 1\n", "heard 0\n0 0\n", "heard 1\n0 1\n"}, {"heard 1\n0 1\n", "refused 8\n", "heard 1\n0 1\n"},
+        {"heard 1\n0 2\n", "heard 1\n0 2\n", "heard 0\n0 0\n"}, {"heard 1\n0 2\n", "heard 1\n0 2\n", "refused 8\n"},
+    };
+    begin_kind("marks");
+    for (size_t i = 0; i < sizeof examples / sizeof examples[0]; i++)
+        make_stopped(few_rows(examples[i].rows, examples[i].commands, examples[i].windows), examples[i].reply);
+    for (unsigned command = WINDOW - 1; command <= MUST2 + 1; command++)
+        for (unsigned closed = 0; closed < 3; closed++) {
+            struct tape t = run_of(10, 0, closed == 1 ? 0 : 10, 0, closed == 2 ? 0 : 10);
+            put_row(&t, command, 1, 2);
+            make_stopped(t, command < WINDOW || command > MUST2 ? "refused 11\n" : replies[command - WINDOW][closed]);
+        }
+}
+
+/* The replies of the planner's refusals, with the nearest tapes that are taken. A tape has no mark above 5, so 7 cannot come. */
 static void refused(void)
 {
     begin_kind("refusal");
@@ -265,7 +317,8 @@ static struct tape random_tape(void)
             end = end % ticks;
         if (below(2000) == 0)
             end = start;
-        put_row(&t, below(40) < musts ? MUST : WINDOW, start, end);
+        unsigned must = below(40) < musts, receiver = below(4) ? 0 : 1 + below(2); /* 0 for either */
+        put_row(&t, (must ? MUST : WINDOW) + 2 * receiver, start, end);
     }
     put(&t, STOP);
     return t;
@@ -350,6 +403,7 @@ int main(int count, char **words)
     full();
     lengths();
     longer();
+    marks();
     refused();
     random_tapes();
     damaged_tapes();

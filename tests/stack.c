@@ -75,7 +75,7 @@ int main(void)
         {"hub_plan_round", plan_round}, {"hub_plan_run", plan_run}, {"hub_write_plan_round", write_round},
         {"hub_write_plan_run", write_run}, {"hub_read_fleet", read_fleet}, {"hub_reply", reply},
         {"hub_player_start", player_start}, {"hub_player_step", player_step}};
-    static const unsigned tables[3][3] = {{600, 900, 0}, {1, 40000, 1}, {600, 900, 2}};
+    static const unsigned tables[3][3] = {{600, 900, 0}, {1, 40000, 1}, {600, 900, 6}};
     size_t base = depth_of(nothing);
     for (size_t c = 0; c < sizeof calls / sizeof *calls; c++) {
         size_t most = 0;

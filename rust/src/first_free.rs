@@ -1,5 +1,6 @@
-//! The old planner: windows in table order, each placed on the first receiver that is free. It can hear too few rows, and miss a plan that exists.
+//! The old planner: windows in table order, each placed on the first receiver that is free and that its mark allows. It can hear too few rows, and miss a plan that exists.
 
+use crate::port::allows;
 use crate::{Kind, Refusal};
 
 fn covered(ticks: u16, start: u16, end: u16, tick: u16) -> bool {
@@ -18,7 +19,7 @@ pub fn plan(kind: Kind, ticks: u16, starts: &[u16], ends: &[u16], marks: &[u8], 
             Kind::Round => true,
             Kind::Run(hours) => hours[receiver][0] <= starts[i] && ends[i] <= hours[receiver][1],
         };
-        let free = |label: u8| open(label as usize - 1) && !(0..i).any(|j| labels[j] == label && meets(j));
+        let free = |label: u8| allows(marks[i], label) && open(label as usize - 1) && !(0..i).any(|j| labels[j] == label && meets(j));
         let label = if free(1) {
             1
         } else if free(2) {
@@ -26,7 +27,7 @@ pub fn plan(kind: Kind, ticks: u16, starts: &[u16], ends: &[u16], marks: &[u8], 
         } else {
             0
         };
-        if label == 0 && marks[i] == 1 {
+        if label == 0 && !allows(marks[i], 0) {
             return Err(Refusal::NoPlan);
         }
         labels[i] = label;

@@ -20,6 +20,22 @@ pub const FLEET_TAPE_BYTES: usize = 400;
 /// The room that `reply` asks for; the longest text has 319 bytes.
 pub const REPLY_BYTES: usize = 400;
 
+/// The marks of a row: whether it may or must be heard, and by which receivers. A mark above 5 is refused, `Refusal::Mark`.
+pub mod mark {
+    /// May be heard, by either receiver.
+    pub const MAY: u8 = 0;
+    /// Must be heard, by either receiver.
+    pub const MUST: u8 = 1;
+    /// May be heard, by receiver 1 only.
+    pub const MAY_1: u8 = 2;
+    /// Must be heard, by receiver 1 only.
+    pub const MUST_1: u8 = 3;
+    /// May be heard, by receiver 2 only.
+    pub const MAY_2: u8 = 4;
+    /// Must be heard, by receiver 2 only.
+    pub const MUST_2: u8 = 5;
+}
+
 /// Why a call is refused; the values are the numbers of papers 01 and 02.
 #[derive(Clone, Copy, Debug, PartialEq, Eq)]
 #[repr(u8)]
@@ -232,8 +248,8 @@ fn answer(reported: c::HubAnswer) -> Result<usize, Refusal> {
     }
 }
 
-/// Plans a table: the plan with the most heard rows, of those the first in paper 01's order. Gives the count, fills the labels and
-/// clears the first `SPACE_BYTES` of the working space; a refusal leaves labels and working space, except that `NoPlan` clears the same part.
+/// Plans a table, a row at each place of starts, ends and marks (0 to 5, see `mark`): the plan with the most heard rows, of those the first in paper 01's order. Gives the
+/// count, fills the labels and clears the first `SPACE_BYTES` of the working space; a refusal leaves labels and working space, except that `NoPlan` clears the same part.
 pub fn plan(kind: Kind, ticks: u16, starts: &[u16], ends: &[u16], marks: &[u8], labels: &mut [u8], space: &mut [u8]) -> Result<usize, Refusal> {
     // SAFETY: each address comes with its slice's length, and the borrow rules keep the written slices apart from all others.
     answer(unsafe {
@@ -272,7 +288,8 @@ pub fn plan(kind: Kind, ticks: u16, starts: &[u16], ends: &[u16], marks: &[u8], 
     })
 }
 
-/// Writes the plan tape of a table and labels to the front of `tape` and gives its length; a refusal leaves `tape` as it was.
+/// Writes the plan tape of a table and labels to the front of `tape` and gives its length; a refusal leaves `tape` as it was. Labels that leave out a must row or use a
+/// receiver that a row's mark excludes are no plan, `NotPlan`.
 pub fn write_plan(kind: Kind, ticks: u16, starts: &[u16], ends: &[u16], marks: &[u8], labels: &[u8], tape: &mut [u8]) -> Result<usize, Refusal> {
     // SAFETY: as in `plan`.
     answer(unsafe {
@@ -311,7 +328,8 @@ pub fn write_plan(kind: Kind, ticks: u16, starts: &[u16], ends: &[u16], marks: &
     })
 }
 
-/// Reads a fleet tape into lists of 64 places: fills them for the rows present, leaves the other places, and on a refusal all.
+/// Reads a fleet tape into lists of 64 places: fills them for the rows present, whose commands 40 to 45 hexadecimal give marks 0 to 5, leaves the other places, and on a
+/// refusal all.
 pub fn read_fleet(tape: &[u8], starts: &mut [u16], ends: &mut [u16], marks: &mut [u8]) -> Result<Fleet, Refusal> {
     // SAFETY: as in `plan`.
     let report = unsafe {

@@ -150,6 +150,13 @@ pub fn all_must(rows: u32, seed: u64) -> Table {
     table
 }
 
+/// One to two deep, with marks 0 to 5 in turn, so half the rows are must: few seeds give a table that has a plan.
+pub fn all_marks(rows: u32, seed: u64) -> Table {
+    let mut table = deep(rows, 1, 2, seed);
+    table.marks = (0..=5).cycle().take(table.rows()).collect();
+    table
+}
+
 /// Rows 0 to 31 are windows of 100 to 5,400 ticks, seven or eight deep in the stretch where they lie (so many and so short, they cannot be that deep all day); rows 32 to
 /// 63 are arcs longer than 38,000 ticks; all marks 0.
 pub fn long_arcs(seed: u64) -> Table {
@@ -189,5 +196,6 @@ pub fn benchmark_tables() -> Vec<(&'static str, Table)> {
         ("run with uneven hours", uneven_run(64, 6)),
         ("all must, no plan", all_must(64, 7)),
         ("32 windows and 32 long arcs", long_arcs(8)),
+        ("1 to 2 deep, marks 0 to 5 in turn", all_marks(64, 51)),
     ]
 }

@@ -4,7 +4,7 @@ mod papers;
 mod player;
 
 use hubplan::tables::{benchmark_tables, long_arcs, Sequence, Table};
-use hubplan::{port, Kind, Refusal, FLEET_TAPE_BYTES, PLAN_TAPE_BYTES, REPLY_BYTES, SPACE_BYTES};
+use hubplan::{first_free, mark, port, Kind, Refusal, FLEET_TAPE_BYTES, PLAN_TAPE_BYTES, REPLY_BYTES, SPACE_BYTES};
 
 type Planner = fn(Kind, u16, &[u16], &[u16], &[u8], &mut [u8], &mut [u8]) -> Result<usize, Refusal>;
 
@@ -40,7 +40,7 @@ fn compare_plan(planner: Planner, table: &Table, labels: usize, space: usize, ri
 
 fn right_plan(table: &Table, labels: usize, space: usize) -> (u8, usize, Vec<u8>) {
     let before: Vec<u8> = (0..labels).map(|i| 0xa0 + i as u8 % 7).collect();
-    papers::planned(table, &before, space)
+    papers::planned(&papers::RULES, table, &before, space)
 }
 
 fn random_hours(sequence: &mut Sequence, ticks: u32) -> [[u16; 2]; 2] {
@@ -53,8 +53,8 @@ fn random_hours(sequence: &mut Sequence, ticks: u32) -> [[u16; 2]; 2] {
     })
 }
 
-/// A table that passes its checks, of so many rows, with windows up to `longest` ticks, one row in `musts` marked must.
-fn random_table(sequence: &mut Sequence, rows: usize, ticks: u32, longest: u32, musts: u32) -> Table {
+/// A table that passes its checks, of so many rows, with windows up to `longest` ticks, one row in `musts` marked must and one in `onlys` for one receiver only.
+fn random_table(sequence: &mut Sequence, rows: usize, ticks: u32, longest: u32, musts: u32, onlys: u32) -> Table {
     let kind = if sequence.one_in(2) {
         Kind::Round
     } else {
@@ -78,7 +78,9 @@ fn random_table(sequence: &mut Sequence, rows: usize, ticks: u32, longest: u32, 
             table.starts.push(start as u16);
             table.ends.push((start + length) as u16);
         }
-        table.marks.push(sequence.one_in(musts) as u8);
+        let must = sequence.one_in(musts) as u8;
+        let only = if sequence.one_in(onlys) { sequence.within(1, 2) as u8 } else { 0 };
+        table.marks.push(2 * only + must);
     }
     table
 }
@@ -86,45 +88,83 @@ fn random_table(sequence: &mut Sequence, rows: usize, ticks: u32, longest: u32, 
 fn random_setting(sequence: &mut Sequence, rows: usize) -> Table {
     let ticks = [2, 3, 10, 24, 60, 100, 1_000, 43_200][sequence.within(0, 7) as usize];
     let longest = (ticks * sequence.within(1, 12) / rows.max(1) as u32).clamp(1, ticks);
+    // musts for one receiver only soon leave no plan, so either is rare in many tables
     let musts = [3, 8, 20, 1_000][sequence.within(0, 3) as usize];
-    random_table(sequence, rows, ticks, longest, musts)
+    let onlys = [1, 2, 4, 1_000][sequence.within(0, 3) as usize];
+    random_table(sequence, rows, ticks, longest, musts, onlys)
+}
+
+/// Marks as they are for either receiver: 2 and 4 become 0, 3 and 5 become 1.
+fn for_either(mark: u8) -> u8 {
+    [0, 1, 0, 1, 0, 1][mark as usize]
+}
+
+/// Whether the mark of row i decides what is right: the same mark for either receiver gives another answer or other labels.
+fn decides(table: &Table, i: usize, right: &(u8, usize, Vec<u8>)) -> bool {
+    let mut other = table.clone();
+    other.marks[i] = for_either(table.marks[i]);
+    other != *table && right_plan(&other, table.rows(), SPACE_BYTES) != *right
+}
+
+/// Windows and marks as a table.
+fn table_of(kind: Kind, ticks: u16, rows: &[(u16, u16, u8)]) -> Table {
+    let mut table = Table::empty(kind, ticks);
+    for &(start, end, mark) in rows {
+        table.starts.push(start);
+        table.ends.push(end);
+        table.marks.push(mark);
+    }
+    table
 }
 
 #[test]
 fn up_to_8_rows_against_all_labels() {
     let mut sequence = Sequence::new(100);
     let (mut none, mut runs) = (0, 0);
-    for turn in 0..4_000 {
+    let mut deciding = [0; 6];
+    for turn in 0..12_000 {
         let rows = if turn % 8 == 0 { 8 } else { sequence.within(0, 7) as usize };
         let table = random_setting(&mut sequence, rows);
         let right = right_plan(&table, rows, SPACE_BYTES + 9);
-        let tried = papers::plan_by_trying(&table);
+        let tried = papers::plan_by_trying(&papers::RULES, &table);
         assert_eq!(tried, (right.0 == 0).then(|| right.2.clone()), "{table:?}");
         none += u32::from(compare_plan(hubplan::plan, &table, rows, SPACE_BYTES + 9, &right) == 8);
         compare_plan(port::plan, &table, rows, SPACE_BYTES + 9, &right);
         runs += u32::from(table.kind != Kind::Round);
+        for i in 0..rows {
+            deciding[table.marks[i] as usize] += u32::from(decides(&table, i, &right));
+        }
     }
     assert!(
-        none > 300 && none < 3_700 && runs > 1_000 && runs < 3_000,
+        none > 900 && none < 11_100 && runs > 4_000 && runs < 8_000,
         "{none} without a plan, {runs} runs"
     );
+    assert!(deciding[2..].iter().all(|&times| times > 300), "marks that decide: {deciding:?}");
 }
 
 #[test]
 fn larger_tables_against_the_search() {
     let mut sequence = Sequence::new(200);
     let mut none = 0;
+    let mut deciding = [0; 6];
     for turn in 0..3_000 {
         let rows = if turn % 4 == 0 { 64 } else { sequence.within(9, 64) as usize };
         let table = random_setting(&mut sequence, rows);
         let right = right_plan(&table, rows, SPACE_BYTES);
         if right.0 == 0 {
-            assert!(papers::is_plan(&table, &papers::overlaps(&table), &right.2));
+            assert!(papers::is_plan(&papers::RULES, &table, &papers::overlaps(&table), &right.2));
         }
         none += u32::from(compare_plan(hubplan::plan, &table, rows, SPACE_BYTES, &right) == 8);
         compare_plan(port::plan, &table, rows, SPACE_BYTES, &right);
+        // the first row of each mark, as a search of so many rows takes its time
+        for mark in 2..=5 {
+            if let Some(i) = table.marks.iter().position(|&other| other == mark) {
+                deciding[mark as usize] += u32::from(decides(&table, i, &right));
+            }
+        }
     }
     assert!(none > 300 && none < 2_700, "{none} without a plan");
+    assert!(deciding[2..].iter().all(|&times| times > 100), "marks that decide: {deciding:?}");
 }
 
 #[test]
@@ -136,6 +176,34 @@ fn benchmark_tables_against_the_search() {
         compare_plan(hubplan::plan, &table, 64, SPACE_BYTES, &right);
         compare_plan(port::plan, &table, 64, SPACE_BYTES, &right);
     }
+}
+
+/// The old planner can hear too few rows or find no plan; what it gives is a plan.
+#[test]
+fn the_old_planner_gives_plans() {
+    let mut sequence = Sequence::new(350);
+    let (mut fewer, mut missed) = (0, 0);
+    for _ in 0..3_000 {
+        let rows = sequence.within(0, 20) as usize;
+        let table = random_setting(&mut sequence, rows);
+        let right = right_plan(&table, rows, SPACE_BYTES);
+        let mut labels = vec![7; rows];
+        match first_free::plan(table.kind, table.ticks, &table.starts, &table.ends, &table.marks, &mut labels) {
+            Ok(count) => {
+                assert!(
+                    papers::is_plan(&papers::RULES, &table, &papers::overlaps(&table), &labels),
+                    "{table:?} {labels:?}"
+                );
+                assert!(count == papers::heard(&labels) && count <= right.1, "{table:?} {labels:?}");
+                fewer += u32::from(count < right.1);
+            }
+            Err(refusal) => {
+                assert_eq!(refusal, Refusal::NoPlan);
+                missed += u32::from(right.0 == 0);
+            }
+        }
+    }
+    assert!(fewer > 200 && missed > 200, "{fewer} heard fewer, {missed} plans missed");
 }
 
 /// Damages a table in one to three places, so that every refusal before 8 comes first now and then.
@@ -175,7 +243,7 @@ fn damage(sequence: &mut Sequence, table: &mut Table, labels: &mut usize, space:
             }
             11 | 12 if !table.marks.is_empty() => {
                 let i = sequence.within(0, table.marks.len() as u32 - 1) as usize;
-                table.marks[i] = sequence.within(2, 255) as u8;
+                table.marks[i] = if sequence.one_in(2) { 6 } else { sequence.within(6, 255) as u8 };
             }
             _ => {}
         }
@@ -205,13 +273,8 @@ fn edges_of_paper_01() {
         compare_plan(hubplan::plan, table, labels, space, &right)
     };
     let of = |kind: Kind, ticks: u16, rows: &[(u16, u16)]| {
-        let mut table = Table::empty(kind, ticks);
-        for &(start, end) in rows {
-            table.starts.push(start);
-            table.ends.push(end);
-            table.marks.push(0);
-        }
-        table
+        let rows: Vec<(u16, u16, u8)> = rows.iter().map(|&(start, end)| (start, end, 0)).collect();
+        table_of(kind, ticks, &rows)
     };
     let open = |ticks: u16| Kind::Run([[0, ticks]; 2]);
     for (ticks, refusal) in [(0, 4), (1, 4), (2, 0), (43_200, 0), (43_201, 4)] {
@@ -241,6 +304,131 @@ fn edges_of_paper_01() {
 }
 
 #[test]
+fn marks_by_hand() {
+    assert_eq!(
+        [mark::MAY, mark::MUST, mark::MAY_1, mark::MUST_1, mark::MAY_2, mark::MUST_2],
+        [0, 1, 2, 3, 4, 5]
+    );
+    // windows, marks, and the labels worked out by hand; none for refusal 8
+    type Case<'a> = (Kind, &'a [(u16, u16)], &'a [u8], Option<&'a [u8]>);
+    let (round, first_shut) = (Kind::Round, Kind::Run([[0, 0], [0, 10]]));
+    let cases: [Case; 14] = [
+        (round, &[(0, 2), (4, 6), (1, 5)], &[1, 1, 1], Some(&[1, 1, 2])),
+        (round, &[(0, 2), (4, 6), (1, 5)], &[3, 5, 1], None),
+        (round, &[(0, 2), (4, 6), (1, 5)], &[3, 5, 0], Some(&[1, 2, 0])),
+        (round, &[(0, 2), (4, 6), (1, 5)], &[5, 5, 1], Some(&[2, 2, 1])),
+        (round, &[(0, 2), (1, 4), (3, 6)], &[0, 0, 5], Some(&[2, 1, 2])),
+        (round, &[(1, 2)], &[2], Some(&[1])),
+        (round, &[(1, 2)], &[4], Some(&[2])),
+        (round, &[(0, 2), (0, 2)], &[4, 0], Some(&[2, 1])),
+        (round, &[(0, 2), (0, 2)], &[2, 2], Some(&[1, 0])),
+        (round, &[(0, 2), (0, 2)], &[4, 5], Some(&[0, 2])),
+        (round, &[(8, 2), (1, 9)], &[3, 3], None),
+        (first_shut, &[(1, 2)], &[2], Some(&[0])),
+        (first_shut, &[(1, 2)], &[3], None),
+        (first_shut, &[(1, 2)], &[5], Some(&[2])),
+    ];
+    for (kind, windows, marks, labels) in cases {
+        let rows: Vec<(u16, u16, u8)> = windows.iter().zip(marks).map(|(&(start, end), &mark)| (start, end, mark)).collect();
+        let table = table_of(kind, 10, &rows);
+        let right = right_plan(&table, rows.len(), SPACE_BYTES);
+        assert_eq!((right.0 == 0).then_some(&right.2[..]), labels, "{table:?}");
+        compare_plan(hubplan::plan, &table, rows.len(), SPACE_BYTES, &right);
+        compare_plan(port::plan, &table, rows.len(), SPACE_BYTES, &right);
+    }
+}
+
+#[test]
+fn refusal_7_begins_at_mark_6() {
+    for mark in 0..=255 {
+        let table = table_of(Kind::Round, 10, &[(1, 2, mark), (3, 3, 0)]);
+        let right = right_plan(&table, 2, SPACE_BYTES);
+        assert_eq!(right.0, if mark < 6 { 6 } else { 7 });
+        compare_plan(hubplan::plan, &table, 2, SPACE_BYTES, &right);
+        compare_plan(port::plan, &table, 2, SPACE_BYTES, &right);
+        let answer = hubplan::write_plan(table.kind, table.ticks, &table.starts, &table.ends, &table.marks, &[1, 2], &mut []);
+        assert_eq!(numbers(answer), (right.0, 0));
+    }
+}
+
+/// "Tables with only 0 and 1 keep their plans": compared with the former rules, which refuse every other mark.
+#[test]
+fn tables_with_only_0_and_1_keep_their_plans() {
+    let mut sequence = Sequence::new(450);
+    let (mut planned, mut none, mut unknown, mut taken) = (0, 0, 0, 0);
+    for turn in 0..2_000 {
+        let rows = if turn % 8 == 0 { 64 } else { sequence.within(0, 20) as usize };
+        let mut table = random_setting(&mut sequence, rows);
+        let before: Vec<u8> = (0..rows).map(|i| 0xa0 + i as u8 % 7).collect();
+        let other_marks = table.marks.iter().any(|&mark| mark > 1);
+        assert_eq!(
+            papers::planned(&papers::former::RULES, &table, &before, SPACE_BYTES).0 == 7,
+            other_marks,
+            "{table:?}"
+        );
+        unknown += u32::from(other_marks);
+        table.marks = table.marks.into_iter().map(for_either).collect();
+        let former = papers::planned(&papers::former::RULES, &table, &before, SPACE_BYTES);
+        compare_plan(hubplan::plan, &table, rows, SPACE_BYTES, &former);
+        compare_plan(port::plan, &table, rows, SPACE_BYTES, &former);
+        assert_eq!(right_plan(&table, rows, SPACE_BYTES), former, "{table:?}");
+        // and what is a plan at all stays, the tape with it
+        let labels: Vec<u8> = former
+            .2
+            .iter()
+            .map(|&label| if sequence.one_in(9) { sequence.within(0, 3) as u8 } else { label })
+            .collect();
+        let mut buffer = vec![0x55; PLAN_TAPE_BYTES];
+        let former_tape = papers::written(&papers::former::RULES, &table, &labels, &buffer);
+        let answer = hubplan::write_plan(table.kind, table.ticks, &table.starts, &table.ends, &table.marks, &labels, &mut buffer);
+        assert_eq!(
+            (numbers(answer), buffer),
+            ((former_tape.0, former_tape.1), former_tape.2),
+            "{table:?} {labels:?}"
+        );
+        planned += u32::from(former.0 == 0);
+        none += u32::from(former.0 == 8);
+        taken += u32::from(former_tape.0 == 0);
+    }
+    assert!(
+        planned > 1_000 && none > 200 && unknown > 1_000 && taken > 300,
+        "{planned} with a plan, {none} without, {unknown} that the former rules refuse, {taken} tapes"
+    );
+}
+
+/// The labels of a best plan under marks 0 and 1, with each of the marks 2 to 5 put to a row: the writer takes them exactly if that row is not on the receiver that the mark
+/// excludes, and not left out where it must be heard.
+#[test]
+fn labels_on_the_wrong_receiver_are_no_plan() {
+    let mut sequence = Sequence::new(460);
+    let mut seen = [[0; 3]; 6];
+    for _ in 0..1_500 {
+        let rows = sequence.within(1, 16) as usize;
+        let mut table = random_setting(&mut sequence, rows);
+        table.marks = table.marks.into_iter().map(for_either).collect();
+        let (0, _, labels) = right_plan(&table, rows, SPACE_BYTES) else {
+            continue;
+        };
+        let tape = papers::plan_tape(&table, &labels);
+        let i = sequence.within(0, rows as u32 - 1) as usize;
+        for (mark, wrong_receiver, must) in [(2, 2, false), (3, 2, true), (4, 1, false), (5, 1, true)] {
+            table.marks[i] = mark;
+            let before = vec![0x55; tape.len()];
+            let mut buffer = before.clone();
+            let answer = hubplan::write_plan(table.kind, table.ticks, &table.starts, &table.ends, &table.marks, &labels, &mut buffer);
+            let right = if labels[i] == wrong_receiver || (must && labels[i] == 0) {
+                (Err(Refusal::NotPlan), &before)
+            } else {
+                (Ok(tape.len()), &tape)
+            };
+            assert_eq!((answer, &buffer), right, "{table:?} {labels:?}");
+            seen[mark as usize][labels[i] as usize] += 1;
+        }
+    }
+    assert!(seen[2..].iter().flatten().all(|&times| times > 150), "by mark and label: {seen:?}");
+}
+
+#[test]
 fn plan_tapes() {
     let mut sequence = Sequence::new(500);
     let mut seen = [0; 12];
@@ -266,7 +454,7 @@ fn plan_tapes() {
             sequence.within(0, 8 + 6 * rows as u32) as usize
         };
         let mut buffer: Vec<u8> = (0..room).map(|i| i as u8 ^ 0x55).collect();
-        let right = papers::written(&table, &labels, &buffer);
+        let right = papers::written(&papers::RULES, &table, &labels, &buffer);
         let answer = hubplan::write_plan(table.kind, table.ticks, &table.starts, &table.ends, &table.marks, &labels, &mut buffer);
         assert_eq!(numbers(answer), (right.0, right.1), "{table:?} {labels:?}");
         assert_eq!(buffer, right.2, "{table:?} {labels:?}");
@@ -284,13 +472,14 @@ fn random_fleet_tape(sequence: &mut Sequence) -> Vec<u8> {
     } as usize;
     let table = random_setting(sequence, rows);
     let mut tape = papers::fleet_tape(&table);
+    let bytes = [0x10, 0x11, 0x20, 0x30, 0x3f, 0x40, 0x41, 0x42, 0x43, 0x44, 0x45, 0x46, 0x50, 0x7f, 0, 255];
     if sequence.one_in(2) {
         for _ in 0..sequence.within(1, 2) {
             let at = sequence.within(0, tape.len().max(1) as u32 - 1) as usize;
             match sequence.within(0, 3) {
                 0 => tape.truncate(at),
                 1 => tape.insert(at, sequence.next() as u8),
-                2 if !tape.is_empty() => tape[at] = [0x10, 0x11, 0x20, 0x30, 0x40, 0x41, 0x50, 0x7f, 0, 255][sequence.within(0, 9) as usize],
+                2 if !tape.is_empty() => tape[at] = bytes[sequence.within(0, bytes.len() as u32 - 1) as usize],
                 _ => tape.push(sequence.next() as u8),
             }
         }
@@ -335,6 +524,34 @@ fn fleet_tapes() {
     assert!([0, 1, 2, 11].iter().all(|&number| seen[number] > 200), "{seen:?}");
 }
 
+/// Every byte in the place of a row's command, as the only row and as the second, in a round and in a run.
+#[test]
+fn row_commands_are_40_to_45() {
+    let (round, run) = (&[0x10, 0, 10][..], &[0x11, 0, 10, 0x50, 0, 0, 0, 10, 0, 0, 0, 10][..]);
+    for before in [round, run] {
+        for rows in [&[][..], &[0x45, 0, 5, 0, 7][..]] {
+            for command in 0..=255 {
+                let tape = [before, rows, &[command, 0, 1, 0, 2], &[0x7f]].concat();
+                let (mut starts, mut ends, mut marks) = ([0; 64], [0; 64], [0xee; 64]);
+                let answer = hubplan::read_fleet(&tape, &mut starts, &mut ends, &mut marks);
+                let (mut out, mut space) = ([0; REPLY_BYTES], [0; SPACE_BYTES]);
+                let text = String::from_utf8_lossy(hubplan::reply(&tape, &mut out, &mut space)).to_string();
+                assert_eq!(text, papers::reply(&tape), "{tape:02x?}");
+                let i = rows.len() / 5;
+                if !(0x40..=0x45).contains(&command) {
+                    assert_eq!((answer, marks[i]), (Err(Refusal::Form), 0xee), "{tape:02x?}");
+                    assert_eq!(text, "refused 11\n", "{tape:02x?}");
+                    continue;
+                }
+                assert_eq!(answer.map(|fleet| fleet.rows), Ok(i + 1), "{tape:02x?}");
+                assert_eq!((starts[i], ends[i], marks[i]), (1, 2, command - 0x40), "{tape:02x?}");
+                let receiver = if command < 0x44 { 1 } else { 2 };
+                assert!(text.ends_with(&format!("{i} {receiver}\n")), "{tape:02x?}: {text}");
+            }
+        }
+    }
+}
+
 #[test]
 fn replies() {
     let mut sequence = Sequence::new(700);
@@ -368,7 +585,7 @@ fn replies() {
 #[test]
 fn the_papers_agree_with_themselves() {
     // the longest tape that `hubplan` takes has 64 rows in a run with room to spare, and 79 in a round
-    assert!(papers::fleet_tape(&random_table(&mut Sequence::new(1), 64, 100, 10, 2)).len() <= FLEET_TAPE_BYTES);
+    assert!(papers::fleet_tape(&random_table(&mut Sequence::new(1), 64, 100, 10, 2, 2)).len() <= FLEET_TAPE_BYTES);
     let tape = [
         0x10, 0x00, 0x64, 0x40, 0x00, 0x0a, 0x00, 0x1e, 0x40, 0x00, 0x14, 0x00, 0x28, 0x40, 0x00, 0x19, 0x00, 0x32, 0x40, 0x00, 0x5a, 0x00, 0x0a,
         0x7f,

@@ -140,7 +140,7 @@ fn micros(time: f64) -> String {
 }
 
 /// The most rows that can be heard, as an integer program: a variable for each row and receiver; at each window's start at most one of the windows over it on each
-/// receiver (two windows overlap exactly if one covers the other's start).
+/// receiver (two windows overlap exactly if one covers the other's start); a must row's two add up to 1, and a receiver that hours or mark exclude has 0.
 fn integer_program(table: &Table) -> String {
     let rows = table.rows();
     let ticks = table.ticks as u32;
@@ -155,18 +155,19 @@ fn integer_program(table: &Table) -> String {
     text += &all.join("\n + ");
     text += "\nSubject To\n";
     for i in 0..rows {
-        let relation = if table.marks[i] == 1 { "=" } else { "<=" };
+        let relation = if port::allows(table.marks[i], 0) { "<=" } else { "=" };
         writeln!(text, " row{i}: {} {relation} 1", sum(vec![name(i, 1), name(i, 2)])).unwrap();
         for receiver in [1, 2] {
             let over: Vec<String> = (0..rows).filter(|&j| covers(j, table.starts[i])).map(|j| name(j, receiver)).collect();
             if over.len() > 1 {
                 writeln!(text, " tick{i}_{receiver}: {} <= 1", over.join("\n + ")).unwrap();
             }
-            if let Kind::Run(hours) = table.kind {
-                let [p, q] = hours[receiver - 1];
-                if table.starts[i] < p || q < table.ends[i] {
-                    writeln!(text, " shut{i}_{receiver}: {} = 0", name(i, receiver)).unwrap();
-                }
+            let open = match table.kind {
+                Kind::Round => true,
+                Kind::Run(hours) => hours[receiver - 1][0] <= table.starts[i] && table.ends[i] <= hours[receiver - 1][1],
+            };
+            if !open || !port::allows(table.marks[i], receiver as u8) {
+                writeln!(text, " shut{i}_{receiver}: {} = 0", name(i, receiver)).unwrap();
             }
         }
     }

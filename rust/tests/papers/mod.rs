@@ -1,6 +1,8 @@
-//! Papers 00 and 01 once more, and request 1 of paper 02 in player.rs, written from their text alone and sharing no code with the planner: the comparison for the tests. Windows are sets of ticks, found by
-//! walking; up to 8 rows every list of labels is tried; a larger table is planned by a forward search over what each receiver is busy with.
+//! Papers 00 and 01 once more, with request 2 of paper 02, and request 1 in player.rs, written from their text alone and sharing no code with the planner: the comparison for
+//! the tests. Windows are sets of ticks, found by walking; up to 8 rows every list of labels is tried; a larger table is planned by a forward search over what each receiver
+//! is busy with. The rules that request 2 changed stand as they were in former.rs.
 
+pub mod former;
 pub mod player;
 
 use hubplan::tables::Table;
@@ -41,6 +43,40 @@ fn window_holds(table: &Table, i: usize) -> bool {
     }
 }
 
+/// What request 2 changed: the highest mark that is not refused, and which labels a row of a table may have, other rows aside.
+pub struct Rules {
+    highest_mark: u8,
+    allowed: fn(&Table, usize, u8) -> bool,
+}
+
+/// "Refusal 7 now begins at mark 6."
+pub const RULES: Rules = Rules { highest_mark: 5, allowed };
+
+/// "0 and 1 as before, 2 and 3 may and must on receiver 1 only, 4 and 5 may and must on receiver 2 only."
+fn allowed(table: &Table, i: usize, label: u8) -> bool {
+    let by_mark: &[u8] = match table.marks[i] {
+        0 => &[0, 1, 2],
+        1 => &[1, 2],
+        2 => &[0, 1],
+        3 => &[1],
+        4 => &[0, 2],
+        5 => &[2],
+        _ => &[],
+    };
+    by_mark.contains(&label) && in_hours(table, i, label)
+}
+
+/// "In a run each heard row lies in its receiver's hours."
+fn in_hours(table: &Table, i: usize, label: u8) -> bool {
+    match table.kind {
+        Kind::Run(hours) if label > 0 => {
+            let [p, q] = hours[label as usize - 1];
+            p <= table.starts[i] && table.ends[i] <= q
+        }
+        _ => true,
+    }
+}
+
 /// Refusals 1 and 2.
 fn lists_refusal(table: &Table, labels: usize) -> u8 {
     let rows = table.starts.len();
@@ -54,7 +90,7 @@ fn lists_refusal(table: &Table, labels: usize) -> u8 {
 }
 
 /// Refusals 4 to 7.
-fn table_refusal(table: &Table) -> u8 {
+fn table_refusal(rules: &Rules, table: &Table) -> u8 {
     if table.ticks < 2 || table.ticks > 43_200 {
         return 4;
     }
@@ -69,31 +105,17 @@ fn table_refusal(table: &Table) -> u8 {
         if !window_holds(table, i) {
             return 6;
         }
-        if table.marks[i] > 1 {
+        if table.marks[i] > rules.highest_mark {
             return 7;
         }
     }
     0
 }
 
-/// Whether row i may have the label, other rows aside.
-fn allowed(table: &Table, i: usize, label: u8) -> bool {
-    if label > 2 || (table.marks[i] == 1 && label == 0) {
-        return false;
-    }
-    match table.kind {
-        Kind::Run(hours) if label > 0 => {
-            let [p, q] = hours[label as usize - 1];
-            p <= table.starts[i] && table.ends[i] <= q
-        }
-        _ => true,
-    }
-}
-
-pub fn is_plan(table: &Table, meet: &[Vec<bool>], labels: &[u8]) -> bool {
+pub fn is_plan(rules: &Rules, table: &Table, meet: &[Vec<bool>], labels: &[u8]) -> bool {
     let rows = table.rows();
     labels.len() == rows
-        && (0..rows).all(|i| allowed(table, i, labels[i]))
+        && (0..rows).all(|i| (rules.allowed)(table, i, labels[i]))
         && (0..rows).all(|i| (0..i).all(|j| labels[i] == 0 || labels[i] != labels[j] || !meet[i][j]))
 }
 
@@ -115,12 +137,12 @@ fn comes_before(a: &[u8], b: &[u8]) -> bool {
 }
 
 /// The right plan by trying every list of labels.
-pub fn plan_by_trying(table: &Table) -> Option<Vec<u8>> {
+pub fn plan_by_trying(rules: &Rules, table: &Table) -> Option<Vec<u8>> {
     let meet = overlaps(table);
     let mut best: Option<Vec<u8>> = None;
     let mut labels = vec![0u8; table.rows()];
     loop {
-        if is_plan(table, &meet, &labels) && best.as_ref().is_none_or(|b| comes_before(&labels, b)) {
+        if is_plan(rules, table, &meet, &labels) && best.as_ref().is_none_or(|b| comes_before(&labels, b)) {
             best = Some(labels.clone());
         }
         let Some(i) = labels.iter().position(|&label| label < 2) else {
@@ -154,7 +176,7 @@ impl Worth {
 
 /// The right plan by a forward search from tick 0: for each choice of the rows that go over the end of the day, rows by start, keeping the best for each two ticks until
 /// which the receivers are busy.
-pub fn plan_by_search(table: &Table) -> Option<Vec<u8>> {
+pub fn plan_by_search(rules: &Rules, table: &Table) -> Option<Vec<u8>> {
     let rows = table.rows();
     let over_end: Vec<usize> = match table.kind {
         Kind::Round => (0..rows).filter(|&i| table.ends[i] != 0 && table.ends[i] < table.starts[i]).collect(),
@@ -180,7 +202,7 @@ pub fn plan_by_search(table: &Table) -> Option<Vec<u8>> {
                 } else {
                     0
                 };
-                fits &= allowed(table, i, label);
+                fits &= (rules.allowed)(table, i, label);
                 worth = worth.with(i, label);
             }
             if !fits {
@@ -202,7 +224,7 @@ pub fn plan_by_search(table: &Table) -> Option<Vec<u8>> {
                         *known = worth.max(*known);
                     };
                     for label in [1u8, 2, 0] {
-                        if !allowed(table, i, label) {
+                        if !(rules.allowed)(table, i, label) {
                             continue;
                         }
                         if label == 0 {
@@ -226,16 +248,16 @@ pub fn plan_by_search(table: &Table) -> Option<Vec<u8>> {
 }
 
 /// What a call of the planner gives: refusal (0 for none), count and labels.
-pub fn planned(table: &Table, labels: &[u8], space: usize) -> (u8, usize, Vec<u8>) {
+pub fn planned(rules: &Rules, table: &Table, labels: &[u8], space: usize) -> (u8, usize, Vec<u8>) {
     let refusal = match lists_refusal(table, labels.len()) {
         0 if space < 16_384 => 3,
-        0 => table_refusal(table),
+        0 => table_refusal(rules, table),
         refusal => refusal,
     };
     if refusal > 0 {
         return (refusal, 0, labels.to_vec());
     }
-    match plan_by_search(table) {
+    match plan_by_search(rules, table) {
         None => (8, 0, labels.to_vec()),
         Some(plan) => (0, heard(&plan), plan),
     }
@@ -264,12 +286,12 @@ pub fn plan_tape(table: &Table, labels: &[u8]) -> Vec<u8> {
 }
 
 /// What a call of the writer gives: refusal, count and the buffer.
-pub fn written(table: &Table, labels: &[u8], buffer: &[u8]) -> (u8, usize, Vec<u8>) {
+pub fn written(rules: &Rules, table: &Table, labels: &[u8], buffer: &[u8]) -> (u8, usize, Vec<u8>) {
     let mut refusal = lists_refusal(table, labels.len());
     if refusal == 0 {
-        refusal = table_refusal(table);
+        refusal = table_refusal(rules, table);
     }
-    if refusal == 0 && !is_plan(table, &overlaps(table), labels) {
+    if refusal == 0 && !is_plan(rules, table, &overlaps(table), labels) {
         refusal = 9;
     }
     if refusal == 0 && buffer.len() < 8 + 6 * heard(labels) {
@@ -284,7 +306,10 @@ pub fn written(table: &Table, labels: &[u8], buffer: &[u8]) -> (u8, usize, Vec<u
     (0, count, tape)
 }
 
-/// The fleet tape of a table.
+/// The commands of rows with marks 0 to 5: WINDOW, MUST, and "commands 42 to 45 hexadecimal, laid out as 40, for marks 2 to 5".
+const ROW_COMMANDS: [u8; 6] = [0x40, 0x41, 0x42, 0x43, 0x44, 0x45];
+
+/// The fleet tape of a table, whose marks are 0 to 5.
 pub fn fleet_tape(table: &Table) -> Vec<u8> {
     let mut tape = vec![];
     match table.kind {
@@ -302,7 +327,7 @@ pub fn fleet_tape(table: &Table) -> Vec<u8> {
         }
     }
     for i in 0..table.rows() {
-        tape.push(if table.marks[i] == 1 { 0x41 } else { 0x40 });
+        tape.push(ROW_COMMANDS[table.marks[i] as usize]);
         word(&mut tape, table.starts[i]);
         word(&mut tape, table.ends[i]);
     }
@@ -334,15 +359,14 @@ pub fn read_fleet(tape: &[u8]) -> Option<Table> {
         _ => return None,
     };
     loop {
-        match byte()? {
-            0x7f => return if byte().is_none() { Some(table) } else { None },
-            command @ (0x40 | 0x41) => {
-                table.starts.push(next_word(&mut byte)?);
-                table.ends.push(next_word(&mut byte)?);
-                table.marks.push(command - 0x40);
-            }
-            _ => return None,
+        let command = byte()?;
+        if command == 0x7f {
+            return if byte().is_none() { Some(table) } else { None };
         }
+        let mark = ROW_COMMANDS.iter().position(|&row| row == command)?;
+        table.starts.push(next_word(&mut byte)?);
+        table.ends.push(next_word(&mut byte)?);
+        table.marks.push(mark as u8);
     }
 }
 
@@ -358,7 +382,7 @@ pub fn reply(tape: &[u8]) -> String {
     if table.rows() > 64 {
         return refused(2);
     }
-    let (refusal, count, labels) = planned(&table, &vec![0; table.rows()], 16_384);
+    let (refusal, count, labels) = planned(&RULES, &table, &vec![0; table.rows()], 16_384);
     if refusal > 0 {
         return refused(refusal);
     }

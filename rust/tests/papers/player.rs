@@ -1,7 +1,7 @@
 //! Request 1 of paper 02 once more, from its text alone: a tape is taken if the writer, given the table that the tape states, writes these bytes; what is told at a tick is
 //! found by walking each window's ticks.
 
-use super::{ticks_of, window_holds, written};
+use super::{ticks_of, window_holds, written, RULES};
 use hubplan::tables::Table;
 use hubplan::Kind;
 
@@ -64,7 +64,7 @@ pub fn is_taken(tape: &[u8]) -> bool {
             (table.starts[i], table.ends[i], labels[i]) = (start, end, label);
         }
     }
-    let (refusal, count, buffer) = written(&table, &labels, &[0; 8 + 6 * 64]);
+    let (refusal, count, buffer) = written(&RULES, &table, &labels, &[0; 8 + 6 * 64]);
     refusal == 0 && buffer[..count] == *tape
 }
 

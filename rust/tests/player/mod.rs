@@ -117,7 +117,7 @@ fn every_first_tick_of_short_days() {
     for _ in 0..600 {
         let (rows, ticks) = (sequence.within(0, 12) as usize, sequence.within(2, 40));
         let longest = sequence.within(1, ticks);
-        let table = random_table(&mut sequence, rows, ticks, longest, 1_000);
+        let table = random_table(&mut sequence, rows, ticks, longest, 1_000, 4);
         let Some(tape) = plan_tape(&table) else {
             continue;
         };
