@@ -1,4 +1,5 @@
 -- Laws of the form of a fleet tape, and the theorems about the reader.
+pub mod Marks
 pub mod Rows
 pub mod Judged
 pub mod Parsed

@@ -1,17 +1,16 @@
 -- The form that is read from bytes is the fleet tape: `fleetOf` of a fleet tape gives back what the tape states, and a tape of which `fleetOf` gives something is the fleet tape of it.
-use Prim.Native.Nat.{ℕ, zero, suc, _+_, _≤_, _<_}
+use Prim.Native.Nat.{ℕ, suc, _+_, _≤_, _<_}
 use mathlib.Core.Path.{_≡_, refl, ap, _∙_}
-use mathlib.Core.Logic.{⊎-elim}
 use mathlib.Core.Bool.{Bool, true, false, cond, _&&_, and-false}
 use mathlib.Core.List.{List, [], _∷_, _++_}
 use mathlib.Core.Option.{Option, none, some}
 use native.Mathlib.Omega.{arith}
 use lib.Dec.{eqb}
 use lib.ListN.{getD, drop}
-use Rattle.basics.proofs.Tests.{and-iff, or-iff, eqb-iff}
+use Rattle.basics.proofs.Tests.{and-iff, eqb-iff}
 use Rattle.window.specs.declared.Kind.{Kind}
 use Rattle.window.specs.declared.Kind.the-variants.{Round, Run}
-use Rattle.tape.specs.Commands.{ROUND, RUN, WINDOW, MUST, HOURS, STOP, operandBytes, begins}
+use Rattle.tape.specs.Commands.{ROUND, RUN, HOURS, STOP, operandBytes, begins}
 use Rattle.tape.specs.Words.{joined, highByte, lowByte, wordAt, Bytes}
 use Rattle.tape.proofs.Joined.{joined-word, high-joined, low-joined, joined-16}
 use Rattle.tape.proofs.Heads.{begins-iff, bytes-drop, spread}
@@ -19,24 +18,20 @@ use Rattle.window.specs.declared.Row.{Row}
 use Rattle.fleet_tape.specs.Fleet.{rowCommand, rowsTape, hoursTape, fleetTape, RowsFit, HoursFit, Fits}
 use Rattle.window.specs.Hours.{hoursFrom, noHours}
 use Rattle.fleet_tape.specs.Form.{isRow, markOf, put, rowsIn, Fleet, fleet, stated, hoursOf, hoursIn, fleetOf}
+use Rattle.fleet_tape.proofs.Marks.{marked, mark-back}
 
 -- ---- from what is stated to the tape and back
 
-module _ (row : Row) (o : Option (List Row)) where
-  row-back : row .mark ≤ 1
-      → cond (isRow (rowCommand (row .mark))) (put (record { start = joined (highByte (row .start)) (lowByte (row .start)); end = joined (highByte (row .end)) (lowByte (row .end)); mark = markOf (rowCommand (row .mark)) }) o) none ≡ put row o
-  row-back h = rw (joined-word (row .start), joined-word (row .end)) (marked (row .mark) h)
-    where
-      marked : (m : ℕ) → m ≤ 1
-          → cond (isRow (rowCommand m)) (put (record { start = row .start; end = row .end; mark = markOf (rowCommand m) }) o) none ≡ put (record { start = row .start; end = row .end; mark = m }) o
-      marked zero h = refl
-      marked (suc zero) h = refl
-      marked (suc (suc m)) h = absurd (omega arith)
+row-back : (row : Row) (o : Option (List Row)) → row .mark ≤ 5
+    → cond (isRow (rowCommand (row .mark))) (put (record { start = joined (highByte (row .start)) (lowByte (row .start)); end = joined (highByte (row .end)) (lowByte (row .end)); mark = markOf (rowCommand (row .mark)) }) o) none ≡ put row o
+row-back row o h =
+    let m = mark-back (row .mark) (omega arith) in
+    rw (m .0, m .1, joined-word (row .start), joined-word (row .end))
 
 rows-back : (rows : List Row) → RowsFit rows → rowsIn (rowsTape rows ++ (STOP ∷ [])) ≡ some rows
 unfolding rowsIn rowsTape
 rows-back [] f = refl
-rows-back (row ∷ rows) f = row-back row (rowsIn (rowsTape rows ++ (STOP ∷ []))) (f .0 .mark-1) ∙ ap (put row) (rows-back rows (f .1))
+rows-back (row ∷ rows) f = row-back row (rowsIn (rowsTape rows ++ (STOP ∷ []))) (f .0 .mark-5) ∙ ap (put row) (rows-back rows (f .1))
 
 not-round : (s : List ℕ) → getD s 0 0 ≡ RUN → begins ROUND s ≡ false
 unfolding begins
@@ -59,16 +54,6 @@ fleet-back Run R hours rows f = let h = f .hours-fit in rw (h .pairs) (run-back 
 
 -- ---- from the tape to what it states and back
 
--- a row's command by its mark
-record Marked (x : ℕ) : Type 0 where
-  command : x ≡ rowCommand (markOf x)
-  small : markOf x ≤ 1
-
-marked : (x : ℕ) → isRow x ≡ true → Marked x
-marked x e =
-    ⊎-elim (λ w. rw w (record { command = refl; small = omega arith })) (λ w. rw w (record { command = refl; small = omega arith }))
-    (or-iff (eqb-iff x WINDOW) (eqb-iff x MUST) .0 e)
-
 -- what is known of bytes of which rows were read
 pub record RowsStand (s : List ℕ) (rows : List Row) : Type 0 where
   pub bytes : s ≡ rowsTape rows ++ (STOP ∷ [])
@@ -89,7 +74,7 @@ module _ (x a b c d : ℕ) (rest : List ℕ) (h : Bytes (x ∷ a ∷ b ∷ c ∷
       let m = marked x e in
       record {
         bytes = λ i. m .command i ∷ high-joined a b (h 2) i ∷ low-joined a b (h 2) i ∷ high-joined c d (h 4) i ∷ low-joined c d (h 4) i ∷ r .bytes i;
-        fit = (record { start-16 = joined-16 a b (h 1) (h 2); end-16 = joined-16 c d (h 3) (h 4); mark-1 = m .small }, r .fit);
+        fit = (record { start-16 = joined-16 a b (h 1) (h 2); end-16 = joined-16 c d (h 3) (h 4); mark-5 = m .small }, r .fit);
       }
   one-row false e o r = tt
 

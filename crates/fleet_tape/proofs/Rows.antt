@@ -1,19 +1,19 @@
 -- The rows of a tape, one after the other: a row that stands first, and what is left at the end.
 use Prim.Native.Nat.{ℕ, suc, _+_, _≤_, _<_}
 use mathlib.Core.Path.{_≡_, refl, sym, ap, _∙_}
-use mathlib.Core.Logic.{⊎-elim}
+use mathlib.Core.Logic.{_↔_}
 use mathlib.Core.Bool.{Bool, true, false, and-true}
 use mathlib.Core.List.{List, [], _∷_, _++_, map}
 use mathlib.Core.Option.{Option, none, some}
 use native.Mathlib.Nat.{zero-add}
 use native.Mathlib.Numerals.{add-one}
 use native.Mathlib.Omega.{arith}
-use borrow.Author.Tests.{lt-ltb, eq-eqb}
+use borrow.Author.Tests.{eq-eqb}
 use lib.Dec.{eqb}
 use lib.ListN.{length, getD, drop, set, length-drop, length-map}
 use lib.Seq.{drop-drop, sets, sets-eq}
-use Rattle.basics.proofs.Tests.{and-iff, or-iff, eqb-iff}
-use Rattle.tape.specs.Commands.{WINDOW, MUST, STOP, operandBytes, begins, stopLast}
+use Rattle.basics.proofs.Tests.{and-iff, eqb-iff}
+use Rattle.tape.specs.Commands.{STOP, operandBytes, begins, stopLast}
 use Rattle.tape.specs.Words.{wordAt}
 use Rattle.fleet_tape.specs.declared.Scanned.{Scanned}
 use Rattle.fleet_tape.specs.declared.Scanned.the-variants.{Count, Broken}
@@ -22,31 +22,37 @@ use Rattle.fleet_tape.specs.Form.{isRow, markOf, put, rowsIn}
 use Rattle.fleet_tape.specs.Scan.{rowFirst, counted, listed}
 use Rattle.basics.specs.Lists.{front}
 use Rattle.tape.proofs.Heads.{begins-iff, first-at, word-at}
+use Rattle.fleet_tape.proofs.Marks.{marked}
 
--- a row stands first: its command and its operands are there
-record RowFirst (s : List ℕ) : Type 0 where
-  command : isRow (getD s 0 0) ≡ true
-  width : operandBytes (getD s 0 0) ≡ 4
-  whole : 4 < length s
+-- a row stands first: a row's command, and four bytes follow
+first-iff : (s : List ℕ) → (rowFirst s ≡ true) ↔ ((isRow (getD s 0 0) ≡ true) × (4 < length s))
+first-iff s =
+    let x = getD s 0 0 in
+    let b = and-iff {a = isRow x} (λ e. e, λ e. e) (begins-iff x s) in (
+      λ e. let f = b .0 e in (f .0, omega (arith, f .1 .0, marked x (f .0) .width)),
+      λ f. b .1 (f .0, (omega (arith, marked x (f .0) .width), refl)),
+    )
 
-row-first : (s : List ℕ) → rowFirst s ≡ true → RowFirst s
-unfolding operandBytes
-row-first s e =
-    ⊎-elim (λ b. record { command = rw (b .1); width = rw (b .1); whole = b .0 }) (λ b. record { command = rw (b .1); width = rw (b .1); whole = b .0 })
-    (or-iff (begins-iff WINDOW s) (begins-iff MUST s) .0 e)
+-- five bytes without a row in front: the first is no row's command
+not-row : (s : List ℕ) → 4 < length s → rowFirst s ≡ false → isRow (getD s 0 0) ≡ false
+not-row s h f = go (isRow (getD s 0 0)) refl
+  where
+    go : (t : Bool) → isRow (getD s 0 0) ≡ t → t ≡ false
+    go true e = sym (first-iff s .1 (e, h)) ∙ f
+    go false e = refl
 
 -- the row of the first five bytes
 abbrev firstRow : List ℕ → Row
 firstRow s = record { start = wordAt s 1; end = wordAt s 3; mark = markOf (getD s 0 0) }
 
-rows-more : (s : List ℕ) → RowFirst s → rowsIn s ≡ put (firstRow s) (rowsIn (drop 5 s))
+rows-more : (s : List ℕ) → (isRow (getD s 0 0) ≡ true) × (4 < length s) → rowsIn s ≡ put (firstRow s) (rowsIn (drop 5 s))
 unfolding rowsIn
 rows-more [] f = absurd (omega arith)
 rows-more (x ∷ []) f = absurd (omega arith)
 rows-more (x ∷ a ∷ []) f = absurd (omega arith)
 rows-more (x ∷ a ∷ b ∷ []) f = absurd (omega arith)
 rows-more (x ∷ a ∷ b ∷ c ∷ []) f = absurd (omega arith)
-rows-more (x ∷ a ∷ b ∷ c ∷ d ∷ rest) f = rw (f .command)
+rows-more (x ∷ a ∷ b ∷ c ∷ d ∷ rest) f = rw (f .0)
 
 rows-stop : (s : List ℕ) → stopLast s ≡ true → rowsIn s ≡ some []
 unfolding rowsIn
@@ -67,7 +73,7 @@ rows-none (x ∷ []) f e = rw (sym (and-true (eqb x STOP)) ∙ e)
 rows-none (x ∷ a ∷ []) f e = refl
 rows-none (x ∷ a ∷ b ∷ []) f e = refl
 rows-none (x ∷ a ∷ b ∷ c ∷ []) f e = refl
-rows-none (x ∷ a ∷ b ∷ c ∷ d ∷ rest) f e = rw (rw (lt-ltb 4 (length (x ∷ a ∷ b ∷ c ∷ d ∷ rest)) (omega arith)) at f)
+rows-none (x ∷ a ∷ b ∷ c ∷ d ∷ rest) f e = rw (not-row (x ∷ a ∷ b ∷ c ∷ d ∷ rest) (omega arith) f)
 
 -- ---- at a place of the tape
 
@@ -75,18 +81,21 @@ rows-none (x ∷ a ∷ b ∷ c ∷ d ∷ rest) f e = rw (rw (lt-ltb 4 (length (x
 abbrev pub rowAt : List ℕ → ℕ → Row
 rowAt s at = record { start = wordAt s (at + 1); end = wordAt s (at + 3); mark = markOf (getD s at 0) }
 
--- A row stands at a place: how long it is, and what follows.
+-- A row stands at a place: its command, how long it is, and what follows.
 pub record RowAt (s : List ℕ) (at : ℕ) : Type 0 where
+  pub command : isRow (getD s at 0) ≡ true
   pub width : operandBytes (getD s at 0) ≡ 4
   pub whole : at + 4 < length s
   pub more-rows : rowsIn (drop at s) ≡ put (rowAt s at) (rowsIn (drop (at + 5) s))
 
 pub row-at : (s : List ℕ) (at : ℕ) → rowFirst (drop at s) ≡ true → RowAt s at
 row-at s at e =
-    let f = row-first (drop at s) e in
+    let f = first-iff (drop at s) .0 e in
+    let k = rw (first-at s at) at (f .0) in
     record {
-      width = rw (first-at s at) at (f .width);
-      whole = omega (arith, length-drop at s, f .whole);
+      command = k;
+      width = marked (getD s at 0) k .width;
+      whole = omega (arith, length-drop at s, f .1);
       more-rows = rows-more (drop at s) f ∙ simp (word-at s at 1, word-at s at 3, first-at s at, drop-drop 5 at s);
     }
 

@@ -1,4 +1,4 @@
--- Two fleet tapes written out: the one of paper 01's session, and one of a run with a must window (P10 of the bench table).
+-- Three fleet tapes written out: the one of paper 01's session, one of a run with a must window (P10 of the bench table), and one with each command of a row (request 2 of paper 02).
 use Prim.Native.Nat.{ℕ}
 use mathlib.Core.Path.{_≡_, refl}
 use mathlib.Core.List.{List, [], _∷_, _++_}
@@ -83,3 +83,33 @@ pub refusals :
     × (call many 64 64 64 ≡ none Rows 64 64 64)
 unfolding fleetRead fleetTape
 refusals = (refl, refl, refl, refl, refl, refl)
+
+-- a tape of six rows, with the command of the first and of the last
+abbrev six : ℕ → ℕ → List ℕ
+six first last =
+    0x10 ∷ 0x00 ∷ 0x64
+    ∷ first ∷ 0x00 ∷ 0x0A ∷ 0x00 ∷ 0x1E
+    ∷ 0x41 ∷ 0x00 ∷ 0x14 ∷ 0x00 ∷ 0x28
+    ∷ 0x42 ∷ 0x00 ∷ 0x19 ∷ 0x00 ∷ 0x32
+    ∷ 0x43 ∷ 0x00 ∷ 0x5A ∷ 0x00 ∷ 0x0A
+    ∷ 0x44 ∷ 0x00 ∷ 0x00 ∷ 0x00 ∷ 0x01
+    ∷ last ∷ 0x01 ∷ 0x02 ∷ 0xFF ∷ 0xFE
+    ∷ 0x7F ∷ []
+
+-- "commands 42 to 45 hexadecimal, laid out as 40, for marks 2 to 5"
+pub six-tape : fleetTape Round 100 noHours (row 10 30 0 ∷ row 20 40 1 ∷ row 25 50 2 ∷ row 90 10 3 ∷ row 0 1 4 ∷ row 258 65534 5 ∷ []) ≡ six 0x40 0x45
+unfolding fleetTape
+six-tape = refl
+
+pub six-read : fleetRead (six 0x40 0x45) before before before
+    ≡ reading (record { refusal = Accepted; kind = Round; ticks = 100; hours = noHours; rows = 6 })
+    ((10 ∷ 20 ∷ 25 ∷ 90 ∷ 0 ∷ 258 ∷ []) ++ replicate 58 7)
+    ((30 ∷ 40 ∷ 50 ∷ 10 ∷ 1 ∷ 65534 ∷ []) ++ replicate 58 7)
+    ((0 ∷ 1 ∷ 2 ∷ 3 ∷ 4 ∷ 5 ∷ []) ++ replicate 58 7)
+unfolding fleetRead
+six-read = refl
+
+-- the bytes before 40 and after 45 are no commands of rows
+pub no-row : (call (six 0x3F 0x45) 64 64 64 ≡ none Form 64 64 64) × (call (six 0x40 0x46) 64 64 64 ≡ none Form 64 64 64)
+unfolding fleetRead
+no-row = (refl, refl)

@@ -1,4 +1,4 @@
--- Believed: What a fleet tape is (paper 01, "Tapes"): from kind, R, hours and rows to bytes.
+-- Believed: What a fleet tape is (paper 01, "Tapes", with the commands of request 2 of paper 02): from kind, R, hours and rows to bytes.
 use Prim.Native.Nat.{ℕ, zero, suc, _≤_, _<_}
 use mathlib.Core.Path.{_≡_}
 use mathlib.Core.List.{List, [], _∷_, _++_}
@@ -8,19 +8,23 @@ use Rattle.window.specs.declared.Kind.the-variants.{Round, Run}
 use Rattle.window.specs.declared.Row.{Row}
 use Rattle.window.specs.Rows.{row}
 use Rattle.window.specs.Hours.{hour, hoursFrom}
-use Rattle.tape.specs.Commands.{ROUND, RUN, WINDOW, MUST, HOURS, STOP}
+use Rattle.tape.specs.Commands.{ROUND, RUN, WINDOW, MUST, WINDOW1, MUST1, WINDOW2, MUST2, HOURS, STOP}
 use Rattle.tape.specs.Words.{word}
 
--- "WINDOW gives mark 0, MUST 1"
+-- "WINDOW gives mark 0, MUST 1" (paper 01); "commands 42 to 45 .. for marks 2 to 5" (request 2 of paper 02)
 abbrev pub rowCommand : ℕ → ℕ
 rowCommand zero = WINDOW
-rowCommand (suc mark) = MUST
+rowCommand (suc zero) = MUST
+rowCommand (suc (suc zero)) = WINDOW1
+rowCommand (suc (suc (suc zero))) = MUST1
+rowCommand (suc (suc (suc (suc zero)))) = WINDOW2
+rowCommand (suc (suc (suc (suc (suc mark))))) = MUST2
 
--- "WINDOW, MUST: start (16), end (16)"
+-- "WINDOW, MUST: start (16), end (16)"; 42 to 45 "laid out as 40"
 abbrev pub rowTape : Row → List ℕ
 rowTape row = rowCommand (row .mark) ∷ word (row .start) ++ word (row .end)
 
--- "WINDOW and MUST in row order"
+-- "WINDOW and MUST in row order", and 42 to 45 among them
 unfoldable pub rowsTape : List Row → List ℕ
 rowsTape [] = []
 rowsTape (row ∷ rows) = rowTape row ++ rowsTape rows
@@ -41,11 +45,11 @@ fleetTape kind R hours rows = headTape kind R hours ++ rowsTape rows ++ (STOP �
 
 -- ---- what a fleet tape can state
 
--- "start (16), end (16)", and a mark that WINDOW or MUST gives
+-- "start (16), end (16)", and a mark that a command gives: "The mark becomes 0 to 5"
 pub record RowFits (row : Row) : Type 0 where
   pub start-16 : row .start < 65536
   pub end-16 : row .end < 65536
-  pub mark-1 : row .mark ≤ 1
+  pub mark-5 : row .mark ≤ 5
 
 abbrev pub RowsFit : List Row → Type 0
 RowsFit [] = Unit {0}

@@ -1,32 +1,32 @@
 -- Believed: The form of a fleet tape, read from its bytes: what a tape of the form states, and nothing of any other bytes.
-use Prim.Native.Nat.{ℕ}
-use mathlib.Core.Bool.{Bool, cond, _&&_, _||_}
+use Prim.Native.Nat.{ℕ, _-_}
+use mathlib.Core.Bool.{Bool, cond, _&&_}
 use mathlib.Core.List.{List, [], _∷_}
 use mathlib.Core.Option.{Option, none, some, Option·map}
-use lib.Dec.{eqb}
+use lib.Dec.{leb, eqb}
 use Rattle.window.specs.declared.Kind.{Kind}
 use Rattle.window.specs.declared.Kind.the-variants.{Round, Run}
 use Rattle.window.specs.Rows.{row}
 use Rattle.window.specs.Hours.{hoursFrom, noHours}
-use Rattle.tape.specs.Commands.{ROUND, RUN, WINDOW, MUST, HOURS, STOP, operandBytes, begins, after}
+use Rattle.tape.specs.Commands.{ROUND, RUN, WINDOW, MUST2, HOURS, STOP, operandBytes, begins, after}
 use Rattle.tape.specs.Words.{joined, wordAt}
 use Rattle.window.specs.declared.Row.{Row}
 
 -- ---- rows
 
--- a row's command
+-- a row's command: 40 to 45
 abbrev pub isRow : ℕ → Bool
-isRow command = eqb command WINDOW || eqb command MUST
+isRow command = leb WINDOW command && leb command MUST2
 
--- "WINDOW gives mark 0, MUST 1"
+-- the mark that a row's command gives: 0 to 5, in the order of the commands
 abbrev pub markOf : ℕ → ℕ
-markOf command = cond (eqb command MUST) 1 0
+markOf command = command - WINDOW
 
 -- a row before the others
 abbrev pub put : Row → Option (List Row) → Option (List Row)
 put row = Option·map (λ rows. row ∷ rows)
 
--- "WINDOW and MUST in row order; STOP as the last byte": a row is a command and four bytes, and what is left at the end is STOP alone
+-- "WINDOW and MUST in row order; STOP as the last byte": a row is a command, 40 to 45, and four bytes, and what is left at the end is STOP alone
 unfoldable pub rowsIn : List ℕ → Option (List Row)
 rowsIn [] = none
 rowsIn (command ∷ []) = cond (eqb command STOP) (some []) none

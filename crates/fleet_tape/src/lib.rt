@@ -1,10 +1,11 @@
-// The reader of fleet tapes: the form is judged to the end of the tape, and then the lists are front.
+// The reader of fleet tapes: the form is judged to the end of the tape, and then the lists are filled.
 ghost use mathlib.Core.Path.{_≡_};
+ghost use mathlib.Core.Bool.{true};
 ghost use Prim.Native.Nat.{_+_};
 ghost use lib.ListN.{drop};
 ghost use Rattle.tape.specs.Words.{Inside};
 ghost use Rattle.window.specs.Rows.{startsOf, endsOf, marksOf};
-ghost use Rattle.fleet_tape.specs.Form.{hoursOf, markOf, rowsIn, stated};
+ghost use Rattle.fleet_tape.specs.Form.{hoursOf, isRow, markOf, rowsIn, stated};
 ghost use Rattle.fleet_tape.specs.Scan.{rowFirst, counted, listed, Fillable};
 ghost use Rattle.fleet_tape.specs.Demand.{Places, Demand2};
 ghost use Rattle.fleet_tape.specs.Reading.{hasPlaces, refused, reading, judged, fleetRead};
@@ -12,7 +13,7 @@ ghost use Rattle.basics.specs.Lists.{front};
 use basics::MAX_ROWS;
 use refusals::Refusal;
 use tape::HOURS;
-use tape::MUST;
+use tape::MUST2;
 use tape::ROUND;
 use tape::RUN;
 use tape::WINDOW;
@@ -77,14 +78,28 @@ fn has_places(starts: usize, ends: usize, marks: usize) -> bool
     marks == MAX_ROWS
 }
 
+// Whether a byte is a row's command: 40 to 45.
+fn is_row(command: u8) -> bool
+    ensures { λ r. ⌜ r ≡ isRow command ⌝ }
+{
+    if command < WINDOW {
+        return false;
+    }
+    command <= MUST2
+}
+
 // Whether a row stands at a place.
 fn is_row_at(tape: &[u8], at: usize) -> bool
     ensures { λ r. ⌜ r ≡ rowFirst (drop at (now (tape .entry))) ⌝ }
 {
-    if begins(tape, at, WINDOW) {
-        return true;
+    if tape.len() <= at {
+        return false;
     }
-    begins(tape, at, MUST)
+    let command = tape[at];
+    if is_row(command) {
+        return begins(tape, at, command);
+    }
+    false
 }
 
 // The rows from a place to the end of the tape, counted; nothing is written.
@@ -115,11 +130,12 @@ fn hours_at(tape: &[u8], at: usize) -> [[u16; 2]; 2]
     [[p1, q1], [p2, q2]]
 }
 
-// The mark that a row's command gives.
+// The mark that a row's command gives: the commands stand in the order of the marks.
 fn mark_of(command: u8) -> u8
+    requires { ⌜ isRow command ≡ true ⌝ }
     ensures { λ r. ⌜ r ≡ markOf command ⌝ }
 {
-    if command == MUST { 1 } else { 0 }
+    command - WINDOW
 }
 
 // Writes the rows of a tape of the form to the lists.

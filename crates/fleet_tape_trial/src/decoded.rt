@@ -1,5 +1,6 @@
 // A decoder of fleet tapes for those whose bytes were changed: what they state is not known from how they were made.
-// It is written from paper 01 alone and shares nothing with the reader: it takes the number of rows from the tape's length.
+// It is written from papers 01 and 02 alone and shares nothing with the reader: it takes the number of rows from the tape's length, and a row's
+// command as two hexadecimal digits.
 use crate::made::Head;
 use crate::made::Stated;
 use crate::made::at_most;
@@ -8,10 +9,6 @@ use crate::made::nothing;
 const ROUND: u8 = 0x10;
 
 const RUN: u8 = 0x11;
-
-const WINDOW: u8 = 0x40;
-
-const MUST: u8 = 0x41;
 
 const HOURS: u8 = 0x50;
 
@@ -70,14 +67,15 @@ fn rows_after(tape: &[u8], head: usize) -> usize {
     (tape.len() - head) / 5
 }
 
+// The digit 4, and then the mark, 0 to 5.
 fn is_row(command: u8) -> bool {
-    if command == WINDOW {
-        return true;
+    if command / 16 != 4 {
+        return false;
     }
-    command == MUST
+    command % 16 < 6
 }
 
-// Whether each row begins with WINDOW or MUST.
+// Whether each row begins with a command of 40 to 45.
 fn has_rows(tape: &[u8], head: usize, rows: usize) -> bool {
     let mut at = head;
     let mut row: usize = 0;
@@ -113,8 +111,9 @@ fn head_stated(tape: &[u8]) -> Head {
     }
 }
 
+// The second digit of a row's command.
 fn mark_stated(command: u8) -> u8 {
-    if command == MUST { 1 } else { 0 }
+    command % 16
 }
 
 // Writes as many of the rows as the lists have places for.

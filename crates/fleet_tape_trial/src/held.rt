@@ -16,7 +16,7 @@ fn pattern_word(i: usize) -> u16 {
 
 // No mark of a row.
 fn pattern_mark(i: usize) -> u8 {
-    (i % 128 + 3) as u8
+    (i % 128 + 6) as u8
 }
 
 fn pattern_words() -> [u16; 65] {

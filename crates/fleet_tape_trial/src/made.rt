@@ -57,8 +57,9 @@ fn word(seed: u64) -> u16 {
     ((seed / 32768) % 65536) as u16
 }
 
+// A mark, 0 to 5.
 fn mark(seed: u64) -> u8 {
-    ((seed / 65536) % 2) as u8
+    ((seed / 65536) % 6) as u8
 }
 
 fn words(seed: u64) -> [u16; 65] {
@@ -144,9 +145,20 @@ fn put_head(tape: &mut [u8], head: Head) -> usize {
     put_word(tape, ticks, head.ticks)
 }
 
+// The command of a row with a mark.
+fn command_of(mark: u8) -> u8 {
+    match mark {
+        0 => 0x40,
+        1 => 0x41,
+        2 => 0x42,
+        3 => 0x43,
+        4 => 0x44,
+        _ => 0x45,
+    }
+}
+
 fn put_row(tape: &mut [u8], at: usize, start: u16, end: u16, mark: u8) -> usize {
-    let command = if mark == 0 { 0x40 } else { 0x41 };
-    let first = put_byte(tape, at, command);
+    let first = put_byte(tape, at, command_of(mark));
     let second = put_word(tape, first, start);
     put_word(tape, second, end)
 }

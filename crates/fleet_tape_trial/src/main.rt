@@ -12,6 +12,7 @@ use held::refused;
 use held::refused_with;
 use made::Head;
 use made::Stated;
+use made::at_most;
 use made::below;
 use made::byte_of;
 use made::front;
@@ -138,6 +139,12 @@ fn read_truncations() -> Tally {
 
 // ---- tapes not of the form
 
+// A tape of one row, with a byte in the place of its command that is no row's.
+fn read_command(byte: u8) -> Tally {
+    let tape = [0x10, 0x00, 0x64, byte, 0x00, 0x0A, 0x00, 0x1E, 0x7F];
+    one_more(none(), false, refused(&tape, 11))
+}
+
 fn read_faults() -> Tally {
     let a = one_more(none(), false, refused(b"\x11\x00\x64\x7f", 11));
     let b = one_more(
@@ -146,7 +153,8 @@ fn read_faults() -> Tally {
         refused(b"\x10\x00\x64\x50\x00\x00\x00\x32\x00\x28\x00\x64\x7f", 11),
     );
     let c = one_more(b, false, refused(b"\x10\x00\x64\x7f\x7f", 11));
-    one_more(c, false, refused(b"", 11))
+    let d = one_more(c, false, refused(b"", 11));
+    both(d, both(read_command(0x3F), read_command(0x46)))
 }
 
 // ---- lists of 63 or 65 places: 1, whatever the tape
@@ -246,6 +254,9 @@ fn read_changes(run: bool) -> Tally {
 
 // ---- random tapes
 
+// How many are read of each kind.
+const RANDOM: u64 = 2600;
+
 // The rows are 0 to 64 in turn.
 fn stated_at(run: bool, turn: u64) -> Stated {
     stated_by(run, (turn % 65) as usize, next(next(turn)))
@@ -287,6 +298,34 @@ fn read_random_damaged(run: bool, turns: u64) -> Tally {
     tally
 }
 
+fn add_mark(counts: &mut [u64; 6], mark: u8) {
+    let place = mark as usize;
+    if place < 6 {
+        counts[place] = std::num::wrapping_add_u64(counts[place], 1);
+    }
+}
+
+// Counts the marks of a tape's rows.
+fn add_marks(marks: &[u8; 65], rows: usize, counts: &mut [u64; 6]) {
+    let n = at_most(rows, 65);
+    let mut i: usize = 0;
+    while i < n {
+        add_mark(counts, marks[i]);
+        i += 1;
+    }
+}
+
+// Counts the marks of the rows of so many random tapes.
+fn add_random(run: bool, turns: u64, counts: &mut [u64; 6]) {
+    let mut turn: u64 = 0;
+    while turn < turns {
+        let made = stated_at(run, turn);
+        let marks = made.marks;
+        add_marks(&marks, made.rows, counts);
+        turn += 1;
+    }
+}
+
 // ---- what is printed
 
 fn print_line(name: &[u8], tally: Tally) {
@@ -303,7 +342,7 @@ fn print_fixed() {
     print_line(b"session tape: ", read_session());
     print_line(b"its truncations: ", read_truncations());
     print_line(
-        b"RUN without HOURS, ROUND with HOURS, a byte after STOP, nothing: ",
+        b"RUN without HOURS, ROUND with HOURS, a byte after STOP, nothing, 3F and 46 for a row: ",
         read_faults(),
     );
     print_line(b"lists of 63 and 65 places: ", read_other_places());
@@ -325,20 +364,40 @@ fn print_random() {
         b"each byte changed: ",
         both(read_changes(false), read_changes(true)),
     );
-    print_line(b"random rounds: ", read_random(false, 2600));
-    print_line(b"random runs: ", read_random(true, 2600));
+    print_line(b"random rounds: ", read_random(false, RANDOM));
+    print_line(b"random runs: ", read_random(true, RANDOM));
     print_line(
         b"random rounds, a byte changed: ",
-        read_random_damaged(false, 2600),
+        read_random_damaged(false, RANDOM),
     );
     print_line(
         b"random runs, a byte changed: ",
-        read_random_damaged(true, 2600),
+        read_random_damaged(true, RANDOM),
     );
+}
+
+fn print_count(count: u64) {
+    io::write_all(1, b" ");
+    io::print_decimal(1, count);
+}
+
+fn print_marks() {
+    let mut counts = [0u64; 6];
+    add_random(false, RANDOM, &mut counts);
+    add_random(true, RANDOM, &mut counts);
+    io::write_all(1, b"rows of mark 0 to 5 in random tapes:");
+    print_count(counts[0]);
+    print_count(counts[1]);
+    print_count(counts[2]);
+    print_count(counts[3]);
+    print_count(counts[4]);
+    print_count(counts[5]);
+    io::write_all(1, b"\n");
 }
 
 fn main() {
     print_fixed();
     print_rows();
     print_random();
+    print_marks();
 }

@@ -1,4 +1,4 @@
-// Runs what paper 01 says of the replies to fleet tapes, and compares. It prints how many cases there were and how many differ.
+// Runs what papers 01 and 02 say of the replies to fleet tapes, and compares. It prints how many cases there were and how many differ.
 mod replies;
 
 use trial_report::print_group;

@@ -1,4 +1,4 @@
-// Replies to fleet tapes: paper 01's session, refusals, and tapes of up to 400 bytes and of more.
+// Replies to fleet tapes: paper 01's session, rows for one receiver only, refusals, and tapes of up to 400 bytes and of more.
 use trial_calls::BEFORE;
 use trial_calls::LENT_BYTES;
 use trial_calls::first_bytes;
@@ -22,35 +22,45 @@ fn is_replied(tape: &[u8], number: u8, text: &[u8]) -> bool {
     is_left(&space, number)
 }
 
-// The session.
-fn session() -> bool {
+// The session's windows, 10–30, 20–40, 25–50 and 90–10 in a round of 100 ticks, with these commands. The first three overlap each other, and the
+// last overlaps none.
+fn session_tape(commands: [u8; 4], number: u8, text: &[u8]) -> bool {
     let tape = [
         0x10,
         0x00,
         0x64,
-        0x40,
+        commands[0],
         0x00,
         0x0A,
         0x00,
         0x1E,
-        0x40,
+        commands[1],
         0x00,
         0x14,
         0x00,
         0x28,
-        0x40,
+        commands[2],
         0x00,
         0x19,
         0x00,
         0x32,
-        0x40,
+        commands[3],
         0x00,
         0x5A,
         0x00,
         0x0A,
         0x7F,
     ];
-    is_replied(&tape, 0, b"heard 3\n0 1\n1 2\n2 0\n3 1\n")
+    is_replied(&tape, number, text)
+}
+
+// The session.
+fn session() -> bool {
+    session_tape(
+        [0x40, 0x40, 0x40, 0x40],
+        0,
+        b"heard 3\n0 1\n1 2\n2 0\n3 1\n",
+    )
 }
 
 // P9, and P10 where `command` is MUST.
@@ -94,8 +104,8 @@ fn round_tape(high: u8, low: u8, number: u8, text: &[u8]) -> bool {
     is_replied(&tape, number, text)
 }
 
-// A run of 100 ticks with the hours 0–q and 0–100 and the row 10 to `end`.
-fn hours_tape(q: u8, end: u8, number: u8, text: &[u8]) -> bool {
+// A run of 100 ticks with the hours 0–q and 0–100 and the row 10 to `end`. With q 0 receiver 1 is closed.
+fn hours_tape(command: u8, q: u8, end: u8, number: u8, text: &[u8]) -> bool {
     let tape = [
         0x11,
         0x00,
@@ -109,7 +119,7 @@ fn hours_tape(q: u8, end: u8, number: u8, text: &[u8]) -> bool {
         0x00,
         0x00,
         0x64,
-        0x40,
+        command,
         0x00,
         0x0A,
         0x00,
@@ -129,9 +139,26 @@ fn planned(group: Group) -> Group {
     g = with_case(g, round_tape(0, 1, 4, b"refused 4\n"));
     g = with_case(g, round_tape(0xA8, 0xC0, 0, b"heard 1\n0 1\n"));
     g = with_case(g, round_tape(0xA8, 0xC1, 4, b"refused 4\n"));
-    g = with_case(g, hours_tape(100, 20, 0, b"heard 1\n0 1\n"));
-    g = with_case(g, hours_tape(101, 20, 5, b"refused 5\n"));
-    with_case(g, hours_tape(100, 10, 6, b"refused 6\n"))
+    g = with_case(g, hours_tape(0x40, 100, 20, 0, b"heard 1\n0 1\n"));
+    g = with_case(g, hours_tape(0x40, 101, 20, 5, b"refused 5\n"));
+    with_case(g, hours_tape(0x40, 100, 10, 6, b"refused 6\n"))
+}
+
+// Commands 42 to 45, marks 2 to 5. May on 1, must on 1, may on 2, must on 2: row 1 takes receiver 1, which leaves row 0 unheard. Two musts on 1
+// that overlap. Must, and may, on the closed receiver 1; must on receiver 2 beside it.
+fn one_receiver(group: Group) -> Group {
+    let mut g = with_case(
+        group,
+        session_tape(
+            [0x42, 0x43, 0x44, 0x45],
+            0,
+            b"heard 3\n0 0\n1 1\n2 2\n3 2\n",
+        ),
+    );
+    g = with_case(g, session_tape([0x43, 0x43, 0x40, 0x40], 8, b"refused 8\n"));
+    g = with_case(g, hours_tape(0x43, 0, 20, 8, b"refused 8\n"));
+    g = with_case(g, hours_tape(0x42, 0, 20, 0, b"heard 0\n0 0\n"));
+    with_case(g, hours_tape(0x45, 0, 20, 0, b"heard 1\n0 2\n"))
 }
 
 // A tape that is not of the form.
@@ -139,7 +166,7 @@ fn broken(group: Group, tape: &[u8]) -> Group {
     with_case(group, is_replied(tape, 11, b"refused 11\n"))
 }
 
-// No byte; no STOP; a byte after STOP; a command of plan tapes; RUN without HOURS; ROUND with HOURS; an operand cut short.
+// No byte; no STOP; a byte after STOP; a command of plan tapes; RUN without HOURS; ROUND with HOURS; an operand cut short; 3F and 46 for a row.
 fn not_of_the_form(group: Group) -> Group {
     let mut g = broken(group, &[]);
     g = broken(g, &[0x10, 0x00, 0x64]);
@@ -147,7 +174,9 @@ fn not_of_the_form(group: Group) -> Group {
     g = broken(g, &[0x10, 0x00, 0x64, 0x20, 0x01, 0x7F]);
     g = broken(g, &[0x11, 0x00, 0x64, 0x7F]);
     g = broken(g, &[0x10, 0, 0x64, 0x50, 0, 0, 0, 0, 0, 0, 0, 0, 0x7F]);
-    broken(g, &[0x10, 0x00, 0x64, 0x40, 0x00, 0x0A, 0x00, 0x7F])
+    g = broken(g, &[0x10, 0x00, 0x64, 0x40, 0x00, 0x0A, 0x00, 0x7F]);
+    g = broken(g, &[0x10, 0x00, 0x64, 0x3F, 0x00, 0x0A, 0x00, 0x1E, 0x7F]);
+    broken(g, &[0x10, 0x00, 0x64, 0x46, 0x00, 0x0A, 0x00, 0x1E, 0x7F])
 }
 
 // A byte of MUST 10–30.
@@ -214,6 +243,7 @@ fn long_runs(group: Group) -> Group {
 pub fn all() -> Group {
     let mut g = no_cases();
     g = planned(g);
+    g = one_receiver(g);
     g = not_of_the_form(g);
     g = long_rounds(g);
     long_runs(g)

@@ -10,11 +10,11 @@ use lib.ListN.{getD, replicate}
 use lib.Dec.{eqb}
 use Rattle.basics.specs.Tests.{every}
 use Rattle.basics.proofs.Tests.{every-iff, imp-iff, eqb-iff, leb-iff}
-use Rattle.tape.specs.Commands.{operandBytes, ROUND, RUN, RECEIVER, LISTEN, WINDOW, MUST, HOURS, STOP}
+use Rattle.tape.specs.Commands.{operandBytes, ROUND, RUN, RECEIVER, LISTEN, WINDOW, MUST, WINDOW1, MUST1, WINDOW2, MUST2, HOURS, STOP}
 
 unfoldable pub isCommand : ℕ → Bool
 isCommand b =
-    eqb b ROUND || eqb b RUN || eqb b RECEIVER || eqb b LISTEN || eqb b WINDOW || eqb b MUST || eqb b HOURS || eqb b STOP
+    eqb b ROUND || eqb b RUN || eqb b RECEIVER || eqb b LISTEN || eqb b WINDOW || eqb b MUST || eqb b WINDOW1 || eqb b MUST1 || eqb b WINDOW2 || eqb b MUST2 || eqb b HOURS || eqb b STOP
 
 -- sixteen places a line, from command 00
 abbrev widths : List ℕ
@@ -23,7 +23,7 @@ widths =
     ++ (2 ∷ 2 ∷ replicate 14 0)
     ++ (1 ∷ replicate 15 0)
     ++ (5 ∷ replicate 15 0)
-    ++ (4 ∷ 4 ∷ replicate 14 0)
+    ++ (replicate 6 4 ++ replicate 10 0)
     ++ (8 ∷ replicate 15 0)
     ++ replicate 32 0
 
@@ -46,6 +46,10 @@ no-operands b h =
       ne-eqb b 0x30 (omega arith),
       ne-eqb b 0x40 (omega arith),
       ne-eqb b 0x41 (omega arith),
+      ne-eqb b 0x42 (omega arith),
+      ne-eqb b 0x43 (omega arith),
+      ne-eqb b 0x44 (omega arith),
+      ne-eqb b 0x45 (omega arith),
       ne-eqb b 0x50 (omega arith),
       ne-eqb b 0x7F (omega arith),
     )

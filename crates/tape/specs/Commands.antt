@@ -24,6 +24,20 @@ WINDOW = 0x40
 abbrev pub MUST : ℕ
 MUST = 0x41
 
+-- request 2 of paper 02: "commands 42 to 45 hexadecimal, laid out as 40, for marks 2 to 5"; 2 and 3 are "may and must on receiver 1 only",
+abbrev pub WINDOW1 : ℕ
+WINDOW1 = 0x42
+
+abbrev pub MUST1 : ℕ
+MUST1 = 0x43
+
+-- 4 and 5 "may and must on receiver 2 only"
+abbrev pub WINDOW2 : ℕ
+WINDOW2 = 0x44
+
+abbrev pub MUST2 : ℕ
+MUST2 = 0x45
+
 abbrev pub HOURS : ℕ
 HOURS = 0x50
 
@@ -39,8 +53,12 @@ operandBytes b =
     (cond (eqb b LISTEN) 5
     (cond (eqb b WINDOW) 4
     (cond (eqb b MUST) 4
+    (cond (eqb b WINDOW1) 4
+    (cond (eqb b MUST1) 4
+    (cond (eqb b WINDOW2) 4
+    (cond (eqb b MUST2) 4
     (cond (eqb b HOURS) 8
-    (cond (eqb b STOP) 0 0)))))))
+    (cond (eqb b STOP) 0 0)))))))))))
 
 -- the command stands first, and all bytes of its operands follow
 unfoldable pub begins : ℕ → List ℕ → Bool

@@ -18,6 +18,16 @@ pub const WINDOW: u8 = 0x40;
 
 pub const MUST: u8 = 0x41;
 
+// Laid out as WINDOW: may and must on receiver 1 only,
+pub const WINDOW1: u8 = 0x42;
+
+pub const MUST1: u8 = 0x43;
+
+// may and must on receiver 2 only.
+pub const WINDOW2: u8 = 0x44;
+
+pub const MUST2: u8 = 0x45;
+
 pub const HOURS: u8 = 0x50;
 
 pub const STOP: u8 = 0x7F;
@@ -90,10 +100,10 @@ const OPERAND_BYTES: [u8; 128] = [
     0,
     4, // 40 WINDOW
     4, // 41 MUST
-    0,
-    0,
-    0,
-    0,
+    4, // 42 WINDOW1
+    4, // 43 MUST1
+    4, // 44 WINDOW2
+    4, // 45 MUST2
     0,
     0,
     0,

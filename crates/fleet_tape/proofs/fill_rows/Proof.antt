@@ -87,7 +87,11 @@ slice-write-ends : tie.Need-slice-write-ends Inv-loop μ-loop
 slice-write-ends c = search needs
 
 mark-of-requires : tie.Need-mark-of-requires Inv-loop μ-loop
-mark-of-requires c κs = search needs
+mark-of-requires c κs =
+    let l = c .before .before .before .before .loop in
+    let a = c .before .before .before .before .before .before .before .before .before .args in
+    let n = next (a .tape .now) (a .rows) (l .at) (l .row) (l .inv .2) (c .before .before .before .loop-test .taken) in
+    n .row .command
 
 slice-write-marks : tie.Need-slice-write-marks Inv-loop μ-loop
 slice-write-marks c = search needs
