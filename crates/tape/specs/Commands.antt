@@ -24,14 +24,14 @@ WINDOW = 0x40
 abbrev pub MUST : ℕ
 MUST = 0x41
 
--- request 2 of paper 02: "commands 42 to 45 hexadecimal, laid out as 40, for marks 2 to 5"; 2 and 3 are "may and must on receiver 1 only",
+-- "commands 42 to 45 hexadecimal, laid out as 40, for marks 2 to 5" (request 2 of paper 02): "2 and 3 may and must on receiver 1 only",
 abbrev pub WINDOW1 : ℕ
 WINDOW1 = 0x42
 
 abbrev pub MUST1 : ℕ
 MUST1 = 0x43
 
--- 4 and 5 "may and must on receiver 2 only"
+-- "4 and 5 may and must on receiver 2 only"
 abbrev pub WINDOW2 : ℕ
 WINDOW2 = 0x44
 

@@ -18,12 +18,12 @@ pub const WINDOW: u8 = 0x40;
 
 pub const MUST: u8 = 0x41;
 
-// Laid out as WINDOW: may and must on receiver 1 only,
+// Rows that only receiver 1 can hear, may and must; laid out as WINDOW.
 pub const WINDOW1: u8 = 0x42;
 
 pub const MUST1: u8 = 0x43;
 
-// may and must on receiver 2 only.
+// Rows that only receiver 2 can hear, may and must.
 pub const WINDOW2: u8 = 0x44;
 
 pub const MUST2: u8 = 0x45;
