@@ -7,6 +7,7 @@ use mathlib.Core.Bool.{Bool, not, _&&_, _||_}
 use lib.Dec.{eqb}
 use Rattle.basics.specs.Tests.{_⇒_}
 
+-- "Refusal 7 now begins at mark 6."
 abbrev pub maxMark : ℕ
 maxMark = 5
 

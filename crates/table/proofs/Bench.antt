@@ -58,24 +58,24 @@ p9 m = row 45 60 0 ∷ row 50 60 m ∷ row 0 50 0 ∷ []
 p12 : List Row
 p12 = row 1 2 9 ∷ row 3 3 0 ∷ []
 
--- row 1 meets rows 0 and 2, which do not meet
-m1 : ℕ → ℕ → ℕ → List Row
-m1 a b c = row 0 2 a ∷ row 1 4 b ∷ row 3 6 c ∷ []
+-- the middle row overlaps both others, which do not overlap
+middle : ℕ → ℕ → ℕ → List Row
+middle a b c = row 0 2 a ∷ row 1 4 b ∷ row 3 6 c ∷ []
 
--- row 2 meets rows 0 and 1, which do not meet
-m3 : ℕ → ℕ → ℕ → List Row
-m3 a b c = row 0 2 a ∷ row 4 6 b ∷ row 1 5 c ∷ []
+-- the last row overlaps both others, which do not overlap
+last : ℕ → ℕ → ℕ → List Row
+last a b c = row 0 2 a ∷ row 4 6 b ∷ row 1 5 c ∷ []
 
 -- three equal windows
-m6 : ℕ → ℕ → ℕ → List Row
-m6 a b c = row 4 5 a ∷ row 4 5 b ∷ row 4 5 c ∷ []
+equal : ℕ → ℕ → ℕ → List Row
+equal a b c = row 4 5 a ∷ row 4 5 b ∷ row 4 5 c ∷ []
 
 -- receiver 1 is closed
-m9-hours : List (List ℕ)
-m9-hours = hoursFrom 0 0 0 100
+closed-1 : List (List ℕ)
+closed-1 = hoursFrom 0 0 0 100
 
-m9 : ℕ → List Row
-m9 m = row 10 20 m ∷ []
+alone : ℕ → List Row
+alone m = row 10 20 m ∷ []
 
 -- P1 to P12, and then request 2: "2 and 3 may and must on receiver 1 only, 4 and 5 may and must on receiver 2 only"
 pub cases : List Case
@@ -93,28 +93,28 @@ cases =
     ∷ round 2 (row 0 1 0 ∷ row 1 0 0 ∷ []) (plan 2 (1 ∷ 1 ∷ []))
     ∷ round 10 p12 (refused Mark p12)
     -- mark 2 on row 1 changes the labels and not the count; so do mark 4 on row 0, and a must on receiver 2 that moves other rows
-    ∷ round 10 (m1 0 0 0) (plan 3 (1 ∷ 2 ∷ 1 ∷ []))
-    ∷ round 10 (m1 0 2 0) (plan 3 (2 ∷ 1 ∷ 2 ∷ []))
-    ∷ round 10 (m1 4 0 0) (plan 3 (2 ∷ 1 ∷ 2 ∷ []))
-    ∷ round 10 (m1 0 0 5) (plan 3 (2 ∷ 1 ∷ 2 ∷ []))
+    ∷ round 10 (middle 0 0 0) (plan 3 (1 ∷ 2 ∷ 1 ∷ []))
+    ∷ round 10 (middle 0 2 0) (plan 3 (2 ∷ 1 ∷ 2 ∷ []))
+    ∷ round 10 (middle 4 0 0) (plan 3 (2 ∷ 1 ∷ 2 ∷ []))
+    ∷ round 10 (middle 0 0 5) (plan 3 (2 ∷ 1 ∷ 2 ∷ []))
     -- a row that may be heard on one receiver only is left out for one that must; of two such rows the first is heard
-    ∷ round 10 (m1 0 2 3) (plan 2 (1 ∷ 0 ∷ 1 ∷ []))
-    ∷ round 10 (m1 2 2 0) (plan 2 (1 ∷ 0 ∷ 1 ∷ []))
-    -- marks 3 and 5 leave no plan where 1 and 1 do, by a third must row that meets both
-    ∷ round 10 (m3 1 1 1) (plan 3 (1 ∷ 1 ∷ 2 ∷ []))
-    ∷ round 10 (m3 3 5 1) (refused NoPlan (m3 3 5 1))
+    ∷ round 10 (middle 0 2 3) (plan 2 (1 ∷ 0 ∷ 1 ∷ []))
+    ∷ round 10 (middle 2 2 0) (plan 2 (1 ∷ 0 ∷ 1 ∷ []))
+    -- marks 3 and 5 leave no plan where 1 and 1 do, by a third must row that overlaps both
+    ∷ round 10 (last 1 1 1) (plan 3 (1 ∷ 1 ∷ 2 ∷ []))
+    ∷ round 10 (last 3 5 1) (refused NoPlan (last 3 5 1))
     -- equal windows, a must on each receiver, and two on one
-    ∷ round 10 (m6 0 5 3) (plan 2 (0 ∷ 2 ∷ 1 ∷ []))
-    ∷ round 10 (m6 0 4 4) (plan 2 (1 ∷ 2 ∷ 0 ∷ []))
-    ∷ round 10 (m6 3 0 3) (refused NoPlan (m6 3 0 3))
+    ∷ round 10 (equal 0 5 3) (plan 2 (0 ∷ 2 ∷ 1 ∷ []))
+    ∷ round 10 (equal 0 4 4) (plan 2 (1 ∷ 2 ∷ 0 ∷ []))
+    ∷ round 10 (equal 3 0 3) (refused NoPlan (equal 3 0 3))
     -- in a run whose receiver 1 is closed
-    ∷ run 100 m9-hours (m9 0) (plan 1 (2 ∷ []))
-    ∷ run 100 m9-hours (m9 2) (plan 0 (0 ∷ []))
-    ∷ run 100 m9-hours (m9 3) (refused NoPlan (m9 3))
-    ∷ run 100 m9-hours (m9 4) (plan 1 (2 ∷ []))
-    ∷ run 100 m9-hours (m9 5) (plan 1 (2 ∷ []))
+    ∷ run 100 closed-1 (alone 0) (plan 1 (2 ∷ []))
+    ∷ run 100 closed-1 (alone 2) (plan 0 (0 ∷ []))
+    ∷ run 100 closed-1 (alone 3) (refused NoPlan (alone 3))
+    ∷ run 100 closed-1 (alone 4) (plan 1 (2 ∷ []))
+    ∷ run 100 closed-1 (alone 5) (plan 1 (2 ∷ []))
     -- "Refusal 7 now begins at mark 6"
-    ∷ round 10 (m6 2 4 6) (refused Mark (m6 2 4 6))
+    ∷ round 10 (equal 2 4 6) (refused Mark (equal 2 4 6))
     ∷ []
 
 -- each call gives what stands in the table, with 16,384 bytes of working space
@@ -123,5 +123,5 @@ Holds [] = Unit {0}
 Holds (c ∷ cs) = (planned (c .lent) (c .before) 16384 ≡ c .gives) × Holds cs
 
 pub bench : Holds cases
-unfolding planned cases on round run plan refused nines p2 p5 p9-hours p9 p12 m1 m3 m6 m9-hours m9
+unfolding planned cases on round run plan refused nines p2 p5 p9-hours p9 p12 middle last equal closed-1 alone
 bench = (refl, (refl, (refl, (refl, (refl, (refl, (refl, (refl, (refl, (refl, (refl, (refl, (refl, (refl, (refl, (refl, (refl, (refl, (refl, (refl, (refl, (refl, (refl, (refl, (refl, (refl, (refl, (refl, (refl, tt)))))))))))))))))))))))))))))

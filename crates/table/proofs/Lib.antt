@@ -7,5 +7,6 @@ pub mod Plans
 pub mod Checked
 pub mod Rivals
 pub mod Former
+pub mod Request2
 pub mod Calls
 pub mod Passing
