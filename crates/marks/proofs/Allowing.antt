@@ -2,10 +2,9 @@
 use Prim.Native.Nat.{ℕ, _≤_}
 use mathlib.Core.Path.{_≡_, refl}
 use mathlib.Core.Logic.{_≢_, _↔_, ⊎-elim}
-use mathlib.Core.Bool.{Bool, true, false, not, _&&_, and-true}
+use mathlib.Core.Bool.{Bool, true, false, not, and-true}
 use native.Mathlib.Omega.{arith}
 use borrow.Author.Tests.{ne-eqb}
-use lib.Dec.{eqb}
 use Rattle.basics.specs.Tests.{_⇒_}
 use Rattle.basics.proofs.Tests.{eqb-iff, and-iff, or-iff, not-iff, imp-iff}
 use Rattle.marks.specs.Marks.{Must, Receiver1Only, Receiver2Only, isMust, isReceiver1Only, isReceiver2Only, markAllows}

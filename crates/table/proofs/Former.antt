@@ -1,5 +1,5 @@
 -- Tables that do not use what a request of paper 02 brought keep their plans, and so a call gives what it gave.
-use Prim.Native.Nat.{ℕ, zero, suc, _≤_, _<_}
+use Prim.Native.Nat.{ℕ, zero, suc, _≤_}
 use mathlib.Core.Path.{_≡_, refl, sym, _∙_}
 use mathlib.Core.Logic.{_↔_, inl, Iff·rfl, Iff·symm}
 use mathlib.Core.List.{List}
@@ -14,7 +14,7 @@ use Rattle.marks.proofs.Allowing.{must-least, receiver-1-least, receiver-2-leas
 use Rattle.window.specs.declared.Row.{Row}
 use Rattle.refusals.proofs.Refusals.{Passed}
 use Rattle.table.specs.declared.Setting.{Setting}
-use Rattle.table.specs.Tables.{Table, rows, rowAt, Open, Allowed, Clash, Plan, Valid}
+use Rattle.table.specs.Tables.{Table, rows, rowAt, Open, Allowed, Plan, Valid}
 use Rattle.table.specs.Checks.{rowRefusal}
 use Rattle.table.specs.Planned.{Planned, checked, bestPlan, planned}
 use Rattle.table.specs.Former.{PlannedBy, OpenBefore2, AllowedBefore2, PlanBefore2, rowRefusalBefore2, OnlyMarks01}

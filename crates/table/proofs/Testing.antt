@@ -1,15 +1,15 @@
 -- Laws of the test for a plan, as its code goes through it: a label's cases, one row more.
 use Prim.Native.Nat.{ℕ, zero, suc, _-_, _≤_, _<_}
 use mathlib.Core.Path.{_≡_, refl, _∙_, sym}
-use mathlib.Core.Bool.{Bool, true, false, not, _&&_, and-false}
+use mathlib.Core.Bool.{Bool, true, false, not, and-false}
 use mathlib.Core.List.{List}
 use native.Mathlib.Omega.{arith}
 use native.Mathlib.Numerals.{sub-one}
-use lib.Dec.{leb, eqb}
+use lib.Dec.{leb}
 use lib.ListN.{length}
 use borrow.Author.Tests.{le-leb, lt-leb, eq-eqb, ne-eqb}
 use Rattle.basics.specs.Lists.{at}
-use Rattle.basics.specs.Tests.{_⇒_, every}
+use Rattle.basics.specs.Tests.{every}
 use Rattle.basics.proofs.Tests.{every-fails}
 use Rattle.marks.specs.Marks.{markAllows}
 use Rattle.window.specs.declared.Kind.{Kind}

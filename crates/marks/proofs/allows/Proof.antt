@@ -1,5 +1,5 @@
 -- `marks::allows` meets its contract: each arm is what the mark says of one label.
-use mathlib.Core.Path.{_∙_, ap, sym}
+use mathlib.Core.Path.{_∙_, ap}
 use mathlib.Core.Bool.{not}
 use borrow.Author.Needs.{needs}
 use Rattle.marks.proofs.Allowing.{allows-0, allows-1, allows-2, allows-other}
