@@ -12,7 +12,7 @@ use Rattle.window.specs.Hours.{noHours}
 use Rattle.fleet_tape.specs.Reading.{Reading, reading, fleetRead}
 
 -- "Input: `10 00 64 40 00 0A 00 1E 40 00 14 00 28 40 00 19 00 32 40 00 5A 00 0A 7F`"
-abbrev session : List ℕ
+abbrev pub session : List ℕ
 session =
     0x10 ∷ 0x00 ∷ 0x64
     ∷ 0x40 ∷ 0x00 ∷ 0x0A ∷ 0x00 ∷ 0x1E

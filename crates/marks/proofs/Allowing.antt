@@ -1,7 +1,7 @@
 -- Laws of marks: what the tests say, and which labels a mark allows, label by label.
 use Prim.Native.Nat.{ℕ, _≤_}
 use mathlib.Core.Path.{_≡_, refl}
-use mathlib.Core.Logic.{_≢_, _↔_, ⊎-elim}
+use mathlib.Core.Logic.{_≢_, _↔_, _⊎_, ⊎-elim}
 use mathlib.Core.Bool.{Bool, true, false, not, and-true}
 use native.Mathlib.Omega.{arith}
 use borrow.Author.Tests.{ne-eqb}
@@ -36,14 +36,12 @@ module _ (mark : ℕ) where
 
   -- ---- the least mark that says so
 
+  -- of two marks in order, for either receiver
+  pub either-least : (a b : ℕ) → a ≤ b → (mark ≡ a) ⊎ (mark ≡ b) → a ≤ mark
+  either-least a b l = ⊎-elim (λ e. omega arith) (λ e. omega arith)
+
   pub must-least : Must mark → 1 ≤ mark
-  must-least = ⊎-elim (λ e. omega arith) (⊎-elim (λ e. omega arith) (λ e. omega arith))
-
-  pub receiver-1-least : Receiver1Only mark → 2 ≤ mark
-  receiver-1-least = ⊎-elim (λ e. omega arith) (λ e. omega arith)
-
-  pub receiver-2-least : Receiver2Only mark → 4 ≤ mark
-  receiver-2-least = ⊎-elim (λ e. omega arith) (λ e. omega arith)
+  must-least = ⊎-elim (λ e. omega arith) (λ e. omega (arith, either-least 3 5 (omega arith) e))
 
   -- ---- label by label
 

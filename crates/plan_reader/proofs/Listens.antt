@@ -21,45 +21,30 @@ use Rattle.plan_reader.proofs.Items.{listen-whole, tag, rowOf, startOf,
 
 -- ---- LISTENs at the front of bytes
 
-listens-more : (s : List ℕ) → 5 < length s → getD s 0 0 ≡ LISTEN → listensIn s ≡ listenOf (getD s 1 0) (wordAt s 2) (wordAt s 4) ∷ listensIn (drop 6 s)
-unfolding listensIn
+-- a LISTEN stands first: it is the first of those read, and the rest is read after it
+listens-more : (s : List ℕ) → 5 < length s → getD s 0 0 ≡ LISTEN
+    → (listensIn s ≡ listenOf (getD s 1 0) (wordAt s 2) (wordAt s 4) ∷ listensIn (drop 6 s)) × (afterListens s ≡ afterListens (drop 6 s))
+unfolding listensIn afterListens
 listens-more [] h e = absurd (omega arith)
 listens-more (command ∷ []) h e = absurd (omega arith)
 listens-more (command ∷ row ∷ []) h e = absurd (omega arith)
 listens-more (command ∷ row ∷ a ∷ []) h e = absurd (omega arith)
 listens-more (command ∷ row ∷ a ∷ b ∷ []) h e = absurd (omega arith)
 listens-more (command ∷ row ∷ a ∷ b ∷ c ∷ []) h e = absurd (omega arith)
-listens-more (command ∷ row ∷ a ∷ b ∷ c ∷ d ∷ rest) h e = rw (eq-eqb command LISTEN e)
+listens-more (command ∷ row ∷ a ∷ b ∷ c ∷ d ∷ rest) h e = let t = eq-eqb command LISTEN e in (rw t, rw t)
 
-after-more : (s : List ℕ) → 5 < length s → getD s 0 0 ≡ LISTEN → afterListens s ≡ afterListens (drop 6 s)
-unfolding afterListens
-after-more [] h e = absurd (omega arith)
-after-more (command ∷ []) h e = absurd (omega arith)
-after-more (command ∷ row ∷ []) h e = absurd (omega arith)
-after-more (command ∷ row ∷ a ∷ []) h e = absurd (omega arith)
-after-more (command ∷ row ∷ a ∷ b ∷ []) h e = absurd (omega arith)
-after-more (command ∷ row ∷ a ∷ b ∷ c ∷ []) h e = absurd (omega arith)
-after-more (command ∷ row ∷ a ∷ b ∷ c ∷ d ∷ rest) h e = rw (eq-eqb command LISTEN e)
-
-listens-none : (s : List ℕ) → begins LISTEN s ≡ false → listensIn s ≡ []
-unfolding listensIn begins operandBytes
-listens-none [] e = refl
-listens-none (command ∷ []) e = refl
-listens-none (command ∷ row ∷ []) e = refl
-listens-none (command ∷ row ∷ a ∷ []) e = refl
-listens-none (command ∷ row ∷ a ∷ b ∷ []) e = refl
-listens-none (command ∷ row ∷ a ∷ b ∷ c ∷ []) e = refl
-listens-none (command ∷ row ∷ a ∷ b ∷ c ∷ d ∷ rest) e = rw (rw (lt-ltb 5 (length (command ∷ row ∷ a ∷ b ∷ c ∷ d ∷ rest)) (omega arith)) at e)
-
-after-none : (s : List ℕ) → begins LISTEN s ≡ false → afterListens s ≡ s
-unfolding afterListens begins operandBytes
-after-none [] e = refl
-after-none (command ∷ []) e = refl
-after-none (command ∷ row ∷ []) e = refl
-after-none (command ∷ row ∷ a ∷ []) e = refl
-after-none (command ∷ row ∷ a ∷ b ∷ []) e = refl
-after-none (command ∷ row ∷ a ∷ b ∷ c ∷ []) e = refl
-after-none (command ∷ row ∷ a ∷ b ∷ c ∷ d ∷ rest) e = rw (rw (lt-ltb 5 (length (command ∷ row ∷ a ∷ b ∷ c ∷ d ∷ rest)) (omega arith)) at e)
+-- no LISTEN stands first: none is read, and all is left
+listens-none : (s : List ℕ) → begins LISTEN s ≡ false → (listensIn s ≡ []) × (afterListens s ≡ s)
+unfolding listensIn afterListens begins operandBytes
+listens-none [] e = (refl, refl)
+listens-none (command ∷ []) e = (refl, refl)
+listens-none (command ∷ row ∷ []) e = (refl, refl)
+listens-none (command ∷ row ∷ a ∷ []) e = (refl, refl)
+listens-none (command ∷ row ∷ a ∷ b ∷ []) e = (refl, refl)
+listens-none (command ∷ row ∷ a ∷ b ∷ c ∷ []) e = (refl, refl)
+listens-none (command ∷ row ∷ a ∷ b ∷ c ∷ d ∷ rest) e =
+    let t = rw (lt-ltb 5 (length (command ∷ row ∷ a ∷ b ∷ c ∷ d ∷ rest)) (omega arith)) at e in
+    (rw t, rw t)
 
 -- ---- items that are LISTENs
 
@@ -100,13 +85,14 @@ module _ (s : List ℕ) (at : ℕ) where
       go true h =
           let made : listenAt (drop at s) at ≡ Listen row start end next = rw h at same in
           let begun = begins-iff LISTEN (drop at s) .0 h in
+          let front = listens-more (drop at s) (begun .0) (begun .1) in
           let n : at + 6 ≡ next = ap nextOf made in
           record {
             further = omega (arith, n);
             inside = omega (arith, n, listen-whole s at h);
-            listens = listens-more (drop at s) (begun .0) (begun .1)
+            listens = front .0
                 ∙ (λ i. listenOf (ap rowOf made i) (ap startOf made i) (ap endOf made i) ∷ listensIn ((drop-drop 6 at s ∙ ap (λ (k : ℕ). drop k s) n) i));
-            rest = after-more (drop at s) (begun .0) (begun .1) ∙ ap afterListens (drop-drop 6 at s ∙ ap (λ (k : ℕ). drop k s) n);
+            rest = front .1 ∙ ap afterListens (drop-drop 6 at s ∙ ap (λ (k : ℕ). drop k s) n);
           }
 
   pub no-listen : {x : Item} → x ≡ itemAt s at → OneOf (0 ∷ 1 ∷ 3 ∷ 4 ∷ []) (tag x) → NoListen
@@ -117,5 +103,5 @@ module _ (s : List ℕ) (at : ℕ) where
       none = ⊎-elim (λ z. omega (arith, z)) (⊎-elim (λ z. omega (arith, z)) (⊎-elim (λ z. omega (arith, z)) (λ z. omega (arith, z))))
 
       go : (b : Bool) → begins LISTEN (drop at s) ≡ b → NoListen
-      go false f = record { listens = listens-none (drop at s) f; rest = after-none (drop at s) f }
+      go false f = let n = listens-none (drop at s) f in record { listens = n .0; rest = n .1 }
       go true f = absurd (none (rw f at (rw e at h)))

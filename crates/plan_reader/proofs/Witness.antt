@@ -9,7 +9,7 @@ use Rattle.basics.specs.Limits.{maxRows}
 use Rattle.basics.specs.Lists.{at}
 use Rattle.window.specs.Hours.{hoursFrom}
 use Rattle.window.proofs.Meaning.{window-end}
-use Rattle.marks.proofs.Allowing.{must-least, receiver-1-least, receiver-2-least}
+use Rattle.marks.proofs.Allowing.{must-least, either-least}
 use Rattle.table.specs.Tables.{settingOf, Table, table, rowAt, Plan, Valid}
 use Rattle.plan_tape.specs.PlanTapes.{rowsOf}
 use Rattle.plan_tape.specs.Stated.{Listen, listenOf, Stated}
@@ -103,8 +103,8 @@ module _ (s : Stated) where
               record {
                 known = low;
                 must = λ e. omega (arith, must-least _ e);
-                receiver-1 = λ e. omega (arith, receiver-1-least _ e);
-                receiver-2 = λ e. omega (arith, receiver-2-least _ e);
+                receiver-1 = λ e. omega (arith, either-least _ 2 3 (omega arith) e);
+                receiver-2 = λ e. omega (arith, either-least _ 4 5 (omega arith) e);
                 hours = opened (s .kind) (s .ticks) (rowAt witness i) (at labels i) low (window-end (s .kind) (s .ticks) (at starts i) (at ends i) (witness-valid .row i h .window));
               };
           apart = λ i j h k d n e o.

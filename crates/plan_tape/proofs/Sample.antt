@@ -26,8 +26,9 @@ labels = 1 ∷ 2 ∷ 0 ∷ 1 ∷ []
 abbrev P2 : Table
 P2 = table (settingOf Round 100 noHours) starts ends (replicate 4 0)
 
-abbrev tape : List ℕ
-tape =
+-- "Its plan tape, 26 bytes"
+abbrev pub session-tape : List ℕ
+session-tape =
     0x10 ∷ 0x00 ∷ 0x64
     ∷ 0x20 ∷ 0x01
     ∷ 0x30 ∷ 0x00 ∷ 0x00 ∷ 0x0A ∷ 0x00 ∷ 0x1E
@@ -37,8 +38,7 @@ tape =
     ∷ 0x7F
     ∷ []
 
--- "Its plan tape, 26 bytes"
-pub sample : planTape Round 100 starts ends labels ≡ tape
+pub sample : planTape Round 100 starts ends labels ≡ session-tape
 unfolding planTape
 sample = refl
 
@@ -48,8 +48,8 @@ refused r bytes = writing (answered r 0) (replicate bytes 9)
 
 -- the tape in a buffer of 28 bytes and of 26; "A buffer of 25 gives 10"; "labels of P2 with a 3 in them (9)", before the buffer of 25 bytes gives 10
 pub session :
-    (written P2 labels (replicate 28 9) ≡ writing (answered Accepted 26) (tape ++ (9 ∷ 9 ∷ [])))
-    × (written P2 labels (replicate 26 9) ≡ writing (answered Accepted 26) tape)
+    (written P2 labels (replicate 28 9) ≡ writing (answered Accepted 26) (session-tape ++ (9 ∷ 9 ∷ [])))
+    × (written P2 labels (replicate 26 9) ≡ writing (answered Accepted 26) session-tape)
     × (written P2 labels (replicate 25 9) ≡ refused Buffer 25)
     × (written P2 (1 ∷ 2 ∷ 3 ∷ 1 ∷ []) (replicate 25 9) ≡ refused NotPlan 25)
 unfolding written

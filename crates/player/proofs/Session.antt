@@ -4,23 +4,12 @@ use mathlib.Core.Path.{_≡_, refl}
 use mathlib.Core.Bool.{true, false}
 use mathlib.Core.List.{List, [], _∷_, _++_}
 use Rattle.refusals.specs.declared.Refusal.the-variants.{Accepted, Tape, FirstTick}
+use Rattle.plan_tape.proofs.Sample.{session-tape}
 use Rattle.player.specs.declared.Receiver.{Receiver}
 use Rattle.player.specs.declared.Receiver.the-variants.{Idle, Listening}
 use Rattle.player.specs.declared.Stepped.{Stepped}
 use Rattle.player.specs.Played.{playerAt, stateOf, steppedTo, stepped, starting, started}
 use Rattle.player.specs.Follows.{afterSteps, stepAt}
-
--- "Its plan tape, 26 bytes"
-abbrev session : List ℕ
-session =
-    0x10 ∷ 0x00 ∷ 0x64
-    ∷ 0x20 ∷ 0x01
-    ∷ 0x30 ∷ 0x00 ∷ 0x00 ∷ 0x0A ∷ 0x00 ∷ 0x1E
-    ∷ 0x30 ∷ 0x03 ∷ 0x00 ∷ 0x5A ∷ 0x00 ∷ 0x0A
-    ∷ 0x20 ∷ 0x02
-    ∷ 0x30 ∷ 0x01 ∷ 0x00 ∷ 0x14 ∷ 0x00 ∷ 0x28
-    ∷ 0x7F
-    ∷ []
 
 -- a step that tells this and goes to a tick
 abbrev told : Receiver → Receiver → ℕ → Stepped
@@ -28,15 +17,15 @@ told receiver1 receiver2 tick = steppedTo (stateOf false receiver1 receiver2) (p
 
 -- "the window's end as taped": a window over the end of the day is told on both sides of tick 0, and at its end tick the one that begins there
 pub played :
-    (started session 98 ≡ starting Accepted (playerAt 98))
-    × (stepAt session (playerAt 98) 0 ≡ told (Listening 3 10) Idle 99)
-    × (stepAt session (playerAt 98) 1 ≡ told (Listening 3 10) Idle 0)
-    × (stepAt session (playerAt 98) 2 ≡ told (Listening 3 10) Idle 1)
-    × (stepAt session (playerAt 9) 0 ≡ told (Listening 3 10) Idle 10)
-    × (stepAt session (playerAt 9) 1 ≡ told (Listening 0 30) Idle 11)
-    × (stepAt session (playerAt 29) 0 ≡ told (Listening 0 30) (Listening 1 40) 30)
-    × (stepAt session (playerAt 29) 1 ≡ told Idle (Listening 1 40) 31)
-    × (stepAt session (playerAt 39) 1 ≡ told Idle Idle 41)
+    (started session-tape 98 ≡ starting Accepted (playerAt 98))
+    × (stepAt session-tape (playerAt 98) 0 ≡ told (Listening 3 10) Idle 99)
+    × (stepAt session-tape (playerAt 98) 1 ≡ told (Listening 3 10) Idle 0)
+    × (stepAt session-tape (playerAt 98) 2 ≡ told (Listening 3 10) Idle 1)
+    × (stepAt session-tape (playerAt 9) 0 ≡ told (Listening 3 10) Idle 10)
+    × (stepAt session-tape (playerAt 9) 1 ≡ told (Listening 0 30) Idle 11)
+    × (stepAt session-tape (playerAt 29) 0 ≡ told (Listening 0 30) (Listening 1 40) 30)
+    × (stepAt session-tape (playerAt 29) 1 ≡ told Idle (Listening 1 40) 31)
+    × (stepAt session-tape (playerAt 39) 1 ≡ told Idle Idle 41)
 unfolding started afterSteps
 played = (refl, refl, refl, refl, refl, refl, refl, refl, refl)
 
@@ -58,10 +47,10 @@ ended = (refl, refl, refl, refl, refl)
 
 -- "12, a tape no writer makes; then 13, a first tick not below R. Either gives a player already finished."
 pub refused :
-    (started session 99 ≡ starting Accepted (playerAt 99))
-    × (started session 100 ≡ starting FirstTick (playerAt 65535))
+    (started session-tape 99 ≡ starting Accepted (playerAt 99))
+    × (started session-tape 100 ≡ starting FirstTick (playerAt 65535))
     × (started [] 100 ≡ starting Tape (playerAt 65535))
-    × (started (session ++ (0x00 ∷ [])) 100 ≡ starting Tape (playerAt 65535))
-    × (stepped session (playerAt 65535) ≡ over 65535)
+    × (started (session-tape ++ (0x00 ∷ [])) 100 ≡ starting Tape (playerAt 65535))
+    × (stepped session-tape (playerAt 65535) ≡ over 65535)
 unfolding started stepped
 refused = (refl, refl, refl, refl, refl)

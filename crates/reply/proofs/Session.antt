@@ -5,18 +5,9 @@ use mathlib.Core.List.{List, [], _∷_}
 use Rattle.table.specs.Planned.{answering}
 use Rattle.refusals.specs.Refusals.{answered}
 use Rattle.refusals.specs.declared.Refusal.the-variants.{Buffer}
+use Rattle.fleet_tape.proofs.Session.{session}
 use Rattle.reply.specs.Lines.{heardWord, wordLine, rowLine, printed}
 use Rattle.reply.specs.Replied.{tapeAnswer}
-
--- "Input: `10 00 64 40 00 0A 00 1E 40 00 14 00 28 40 00 19 00 32 40 00 5A 00 0A 7F`"
-abbrev pub session : List ℕ
-session =
-    0x10 ∷ 0x00 ∷ 0x64
-    ∷ 0x40 ∷ 0x00 ∷ 0x0A ∷ 0x00 ∷ 0x1E
-    ∷ 0x40 ∷ 0x00 ∷ 0x14 ∷ 0x00 ∷ 0x28
-    ∷ 0x40 ∷ 0x00 ∷ 0x19 ∷ 0x00 ∷ 0x32
-    ∷ 0x40 ∷ 0x00 ∷ 0x5A ∷ 0x00 ∷ 0x0A
-    ∷ 0x7F ∷ []
 
 -- "Output": heard 3, and the four rows
 abbrev pub lines : List ℕ

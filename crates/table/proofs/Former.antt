@@ -10,7 +10,7 @@ use Rattle.labels.proofs.Best.{best-iff, assignment-iff}
 use Rattle.window.specs.declared.Kind.{Kind}
 use Rattle.window.specs.declared.Kind.the-variants.{Round, Run}
 use Rattle.marks.specs.Marks.{maxMark}
-use Rattle.marks.proofs.Allowing.{must-least, receiver-1-least, receiver-2-least}
+use Rattle.marks.proofs.Allowing.{must-least, either-least}
 use Rattle.window.specs.declared.Row.{Row}
 use Rattle.refusals.proofs.Refusals.{Passed}
 use Rattle.table.specs.declared.Setting.{Setting}
@@ -60,8 +60,8 @@ module _ (S : Setting) (row : Row) (h : row .mark ≤ 1) where
         λ a. record {
           known = a .known;
           must = λ e. a .must (omega (arith, must-least (row .mark) e));
-          receiver-1 = λ e. absurd (omega (arith, receiver-1-least (row .mark) e));
-          receiver-2 = λ e. absurd (omega (arith, receiver-2-least (row .mark) e));
+          receiver-1 = λ e. absurd (omega (arith, either-least (row .mark) 2 3 (omega arith) e));
+          receiver-2 = λ e. absurd (omega (arith, either-least (row .mark) 4 5 (omega arith) e));
           hours = o .1 (a .hours);
         },
       )

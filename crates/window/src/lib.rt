@@ -12,7 +12,7 @@ pub enum Kind {
     Run,
 }
 
-// "Row i has a start and an end (16-bit numbers) and a mark: 0 may be heard, 1 must be heard."
+// "Row i has a start and an end (16-bit numbers) and a mark"; what a mark says is the crate `marks`.
 pub struct Row {
     pub start: u16,
     pub end: u16,
