@@ -7,58 +7,24 @@ mod searched;
 use decided::Decided;
 use trial_report::print;
 use trial_report::print_two;
+use trial_report::print_words;
+
+fn print_mark(words: &[u8], rounds: u32, runs: u32) {
+    print_words(b"  decided by ");
+    print_words(words);
+    print_two(b": rounds ", rounds, b", runs ", runs);
+}
 
 // The tables whose answer a mark decided: with the other mark in its place it is another answer.
 fn print_decided(rounds: Decided, runs: Decided) {
-    let words = b", runs ";
-    print_two(
-        b"  mark 0 decided, not 1: rounds ",
-        rounds.zero_as_one,
-        words,
-        runs.zero_as_one,
-    );
-    print_two(
-        b"  mark 1 decided, not 0: rounds ",
-        rounds.one_as_zero,
-        words,
-        runs.one_as_zero,
-    );
-    print_two(
-        b"  mark 2 decided, not 0: rounds ",
-        rounds.two_as_zero,
-        words,
-        runs.two_as_zero,
-    );
-    print_two(
-        b"  mark 3 decided, not 1: rounds ",
-        rounds.three_as_one,
-        words,
-        runs.three_as_one,
-    );
-    print_two(
-        b"  mark 3 decided, not 2: rounds ",
-        rounds.three_as_two,
-        words,
-        runs.three_as_two,
-    );
-    print_two(
-        b"  mark 4 decided, not 0: rounds ",
-        rounds.four_as_zero,
-        words,
-        runs.four_as_zero,
-    );
-    print_two(
-        b"  mark 5 decided, not 1: rounds ",
-        rounds.five_as_one,
-        words,
-        runs.five_as_one,
-    );
-    print_two(
-        b"  mark 5 decided, not 4: rounds ",
-        rounds.five_as_four,
-        words,
-        runs.five_as_four,
-    );
+    print_mark(b"mark 0, not 1", rounds.zero_as_one, runs.zero_as_one);
+    print_mark(b"mark 1, not 0", rounds.one_as_zero, runs.one_as_zero);
+    print_mark(b"mark 2, not 0", rounds.two_as_zero, runs.two_as_zero);
+    print_mark(b"mark 3, not 1", rounds.three_as_one, runs.three_as_one);
+    print_mark(b"mark 3, not 2", rounds.three_as_two, runs.three_as_two);
+    print_mark(b"mark 4, not 0", rounds.four_as_zero, runs.four_as_zero);
+    print_mark(b"mark 5, not 1", rounds.five_as_one, runs.five_as_one);
+    print_mark(b"mark 5, not 4", rounds.five_as_four, runs.five_as_four);
 }
 
 fn main() {

@@ -14,6 +14,11 @@ pub fn more(count: u32, fact: bool) -> u32
     }
 }
 
+// Words within a line.
+pub fn print_words(words: &[u8]) {
+    io::write_all(1, words);
+}
+
 // A line of words and a number.
 pub fn print(words: &[u8], n: u32) {
     io::write_all(1, words);
