@@ -97,7 +97,7 @@ module _ {s : Stated} {i : ℕ} where
 -- ---- what holds of a row
 
 free-window : (kind : Kind) (R : ℕ) → 2 ≤ R → Window kind R 0 1
-free-window Round R h = (omega arith, omega arith, λ e. omega arith)
+free-window Round R h = (omega arith, omega arith)
 free-window Run R h = (omega arith, omega arith)
 
 -- "for a run, hours 0 to R are supposed": every window lies in them

@@ -22,23 +22,28 @@ run = tape (0x11 ∷ 0x00 ∷ 0x64 ∷ [])
 abbrev listen : ℕ → ℕ → ℕ → List ℕ
 listen row start end = 0x30 ∷ row ∷ 0x00 ∷ start ∷ 0x00 ∷ end ∷ []
 
--- Taken: no LISTEN at all; row numbers with holes, up to 63; touching windows; an end at tick 0; in a run an end at R.
+-- Taken: no LISTEN at all; row numbers with holes, up to 63; touching windows; an end at tick 0; in a run an end at R; in a round, windows of beacons that send all day, one on each receiver.
 pub taken :
     (isPlanTape (round [] []) ≡ true)
     × (isPlanTape (round (listen 63 0 9) (listen 5 1 8)) ≡ true)
     × (isPlanTape (round (listen 1 10 30 ++ listen 0 30 10) []) ≡ true)
     × (isPlanTape (round (listen 0 99 0) []) ≡ true)
     × (isPlanTape (run (listen 0 0 100) []) ≡ true)
+    × (isPlanTape (round (listen 0 9 9) []) ≡ true)
+    × (isPlanTape (round (listen 0 99 99) (listen 1 0 0)) ≡ true)
 unfolding isPlanTape
-taken = (refl, refl, refl, refl, refl)
+taken = (refl, refl, refl, refl, refl, refl, refl)
 
--- Not taken: row 64; a row twice, on one receiver and on both; an empty window; in a round an end at R; in a run an end before the start; starts that do not rise; windows that overlap, also over tick 0; receivers exchanged; a LISTEN cut short; STOP early; no STOP; a byte after STOP.
+-- Not taken: row 64; a row twice, on one receiver and on both; in a run, a start that is the end; in a round an end at R, a start and end at R, an all-day window and another one on its receiver; in a run an end before the start; starts that do not rise; windows that overlap, also over tick 0; receivers exchanged; a LISTEN cut short; STOP early; no STOP; a byte after STOP.
 pub not-taken :
     (isPlanTape (round (listen 64 0 9) []) ≡ false)
     × (isPlanTape (round (listen 5 0 9 ++ listen 5 20 30) []) ≡ false)
     × (isPlanTape (round (listen 5 0 9) (listen 5 20 30)) ≡ false)
-    × (isPlanTape (round (listen 0 9 9) []) ≡ false)
+    × (isPlanTape (run (listen 0 9 9) []) ≡ false)
     × (isPlanTape (round (listen 0 9 100) []) ≡ false)
+    × (isPlanTape (round (listen 0 100 100) []) ≡ false)
+    × (isPlanTape (round (listen 0 9 9 ++ listen 1 50 51) []) ≡ false)
+    × (isPlanTape (round [] (listen 0 8 9 ++ listen 1 9 9)) ≡ false)
     × (isPlanTape (run (listen 0 90 10) []) ≡ false)
     × (isPlanTape (round (listen 0 20 30 ++ listen 1 0 9) []) ≡ false)
     × (isPlanTape (round (listen 0 0 20 ++ listen 1 19 30) []) ≡ false)
@@ -49,7 +54,7 @@ pub not-taken :
     × (isPlanTape ((0x10 ∷ 0x00 ∷ 0x64 ∷ []) ++ (0x20 ∷ 0x01 ∷ 0x20 ∷ 0x02 ∷ [])) ≡ false)
     × (isPlanTape (round [] [] ++ (0x7F ∷ [])) ≡ false)
 unfolding isPlanTape
-not-taken = (refl, refl, refl, refl, refl, refl, refl, refl, refl, refl, refl, refl, refl, refl)
+not-taken = (refl, refl, refl, refl, refl, refl, refl, refl, refl, refl, refl, refl, refl, refl, refl, refl, refl)
 
 -- "R is 2 to 43,200"
 abbrev rounds : ℕ → ℕ → List ℕ

@@ -9,8 +9,8 @@ use Rattle.basics.specs.Limits.{maxRows}
 use Rattle.basics.specs.Lists.{at}
 use Rattle.window.specs.Hours.{hoursFrom}
 use Rattle.window.proofs.Meaning.{window-end}
-use Rattle.marks.proofs.Allowing.{must-least, either-least}
 use Rattle.table.specs.Tables.{settingOf, Table, table, rowAt, Plan, Valid}
+use Rattle.table.proofs.Plans.{unmarked}
 use Rattle.plan_tape.specs.PlanTapes.{rowsOf}
 use Rattle.plan_tape.specs.Stated.{Listen, listenOf, Stated}
 use Rattle.plan_tape.specs.Written.{tapeOf}
@@ -99,14 +99,8 @@ module _ (s : Stated) where
           allowed = λ i h.
               let l : i < maxRows = omega (arith, each-start) in
               let low : at labels i ≤ 2 = rw (label-at i l) (known s J (place s i)) in
-              let unmarked = tabled-at (λ i. 0) maxRows i l in
-              record {
-                known = low;
-                must = λ e. omega (arith, must-least _ e);
-                receiver-1 = λ e. omega (arith, either-least _ 2 3 (omega arith) e);
-                receiver-2 = λ e. omega (arith, either-least _ 4 5 (omega arith) e);
-                hours = opened (s .kind) (s .ticks) (rowAt witness i) (at labels i) low (window-end (s .kind) (s .ticks) (at starts i) (at ends i) (witness-valid .row i h .window));
-              };
+              unmarked (witness .setting) (rowAt witness i) (tabled-at (λ i. 0) maxRows i l) (at labels i) low
+              (opened (s .kind) (s .ticks) (rowAt witness i) (at labels i) low (window-end (s .kind) (s .ticks) (at starts i) (at ends i) (witness-valid .row i h .window)));
           apart = λ i j h k d n e o.
               let l : i < maxRows = omega (arith, each-start) in
               let l′ : j < maxRows = omega (arith, each-start) in

@@ -1,4 +1,4 @@
--- Paper 01's session: its plan tape of 26 bytes, the buffer of 25 bytes, and labels of P2 with a 3 in them; the writer's order; labels on the wrong receiver.
+-- Paper 01's session: its plan tape of 26 bytes, the buffer of 25 bytes, and labels of P2 with a 3 in them; the writer's order; labels on the wrong receiver; beacons that send all day.
 use Prim.Native.Nat.{ℕ}
 use mathlib.Core.Path.{_≡_, refl}
 use mathlib.Core.List.{List, [], _∷_, _++_}
@@ -95,3 +95,17 @@ pub receivers :
     × (marked 6 2 ≡ refused Mark 14)
 unfolding written
 receivers = (refl, refl, refl, refl, refl, refl, refl, refl, refl, refl, refl)
+
+-- "Tapes .. follow this meaning" (request 3 of paper 02): row 3–3 of a round and a row beside it, by their labels; "both must still be below R, and a run refuses it as before"
+abbrev beside : ℕ → ℕ → Written
+beside label label′ = written (tableOf (settingOf Round 10 noHours) (row 3 3 0 ∷ row 8 9 0 ∷ [])) (label ∷ label′ ∷ []) (replicate 20 9)
+
+pub all-day :
+    (beside 1 2
+    ≡ writing (answered Accepted 20) (0x10 ∷ 0x00 ∷ 0x0A ∷ 0x20 ∷ 0x01 ∷ 0x30 ∷ 0x00 ∷ 0x00 ∷ 0x03 ∷ 0x00 ∷ 0x03 ∷ 0x20 ∷ 0x02 ∷ 0x30 ∷ 0x01 ∷ 0x00 ∷ 0x08 ∷ 0x00 ∷ 0x09 ∷ 0x7F ∷ []))
+    × (beside 1 1 ≡ refused NotPlan 20)
+    × (beside 2 2 ≡ refused NotPlan 20)
+    × (written (tableOf (settingOf Round 10 noHours) (row 10 10 0 ∷ [])) (1 ∷ []) (replicate 20 9) ≡ refused Window 20)
+    × (written (tableOf (settingOf Run 10 (hoursFrom 0 10 0 10)) (row 3 3 0 ∷ [])) (1 ∷ []) (replicate 20 9) ≡ refused Window 20)
+unfolding written
+all-day = (refl, refl, refl, refl, refl)

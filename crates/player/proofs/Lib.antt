@@ -2,6 +2,7 @@
 pub mod Steps
 pub mod Telling
 pub mod Following
-pub mod Request
+pub mod Request1
 pub mod Plan
+pub mod Request3
 pub mod Session

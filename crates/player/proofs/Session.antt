@@ -1,4 +1,4 @@
--- Worked examples: paper 01's session tape played over the end of the day, a run to its end and beyond, and refused starts.
+-- Worked examples: paper 01's session tape played over the end of the day, a run to its end and beyond, a beacon that sends all day, and refused starts.
 use Prim.Native.Nat.{ℕ}
 use mathlib.Core.Path.{_≡_, refl}
 use mathlib.Core.Bool.{true, false}
@@ -44,6 +44,24 @@ pub ended :
     × (stepAt run (playerAt 1) 4 ≡ over 4)
 unfolding started afterSteps
 ended = (refl, refl, refl, refl, refl)
+
+-- a round of 4 ticks in which receiver 1 hears row 5 from 2 to 2 and receiver 2 row 0 from 1 to 2: for two days row 5 is told at every tick, "the window's end" 2 and the tick before it included
+abbrev all-day : ℕ → List ℕ
+all-day kind = kind ∷ 0x00 ∷ 0x04 ∷ 0x20 ∷ 0x01 ∷ 0x30 ∷ 0x05 ∷ 0x00 ∷ 0x02 ∷ 0x00 ∷ 0x02 ∷ 0x20 ∷ 0x02 ∷ 0x30 ∷ 0x00 ∷ 0x00 ∷ 0x01 ∷ 0x00 ∷ 0x02 ∷ 0x7F ∷ []
+
+pub all-days :
+    (started (all-day 0x10) 1 ≡ starting Accepted (playerAt 1))
+    × (stepAt (all-day 0x10) (playerAt 1) 0 ≡ told (Listening 5 2) (Listening 0 2) 2)
+    × (stepAt (all-day 0x10) (playerAt 1) 1 ≡ told (Listening 5 2) Idle 3)
+    × (stepAt (all-day 0x10) (playerAt 1) 2 ≡ told (Listening 5 2) Idle 0)
+    × (stepAt (all-day 0x10) (playerAt 1) 3 ≡ told (Listening 5 2) Idle 1)
+    × (stepAt (all-day 0x10) (playerAt 1) 4 ≡ told (Listening 5 2) (Listening 0 2) 2)
+    × (stepAt (all-day 0x10) (playerAt 1) 5 ≡ told (Listening 5 2) Idle 3)
+    × (stepAt (all-day 0x10) (playerAt 1) 6 ≡ told (Listening 5 2) Idle 0)
+    × (stepAt (all-day 0x10) (playerAt 1) 7 ≡ told (Listening 5 2) Idle 1)
+    × (started (all-day 0x11) 1 ≡ starting Tape (playerAt 65535))
+unfolding started afterSteps
+all-days = (refl, refl, refl, refl, refl, refl, refl, refl, refl, refl)
 
 -- "12, a tape no writer makes; then 13, a first tick not below R. Either gives a player already finished."
 pub refused :

@@ -1,4 +1,4 @@
--- The bench table: P1 to P12 of paper 01, and examples of marks 2 to 5 (request 2 of paper 02). Calls, and the whole answer to each.
+-- The bench table: P1 to P12 of paper 01, and examples of marks 2 to 5 and of beacons that send all day (requests 2 and 3 of paper 02). Calls, and the whole answer to each.
 use Prim.Native.Nat.{ℕ}
 use mathlib.Core.Path.{_≡_, refl}
 use mathlib.Core.List.{List, [], _∷_, map}
@@ -8,7 +8,7 @@ use Rattle.window.specs.declared.Row.{Row}
 use Rattle.window.specs.Rows.{row}
 use Rattle.window.specs.Hours.{hoursFrom, noHours}
 use Rattle.refusals.specs.declared.Refusal.{Refusal}
-use Rattle.refusals.specs.declared.Refusal.the-variants.{Accepted, Mark, NoPlan}
+use Rattle.refusals.specs.declared.Refusal.the-variants.{Accepted, Window, Mark, NoPlan}
 use Rattle.refusals.specs.Refusals.{answered}
 use Rattle.table.specs.Tables.{settingOf, Table, tableOf}
 use Rattle.table.specs.Planned.{Planned, answering, planned}
@@ -55,6 +55,7 @@ p9-hours = hoursFrom 0 50 40 100
 p9 : ℕ → List Row
 p9 m = row 45 60 0 ∷ row 50 60 m ∷ row 0 50 0 ∷ []
 
+-- the second row sends all day; before request 3 it was refused 6
 p12 : List Row
 p12 = row 1 2 9 ∷ row 3 3 0 ∷ []
 
@@ -76,6 +77,22 @@ closed-1 = hoursFrom 0 0 0 100
 
 alone : ℕ → List Row
 alone m = row 10 20 m ∷ []
+
+-- a beacon that sends all day, and two rows that do not overlap
+all-day : ℕ → ℕ → ℕ → List Row
+all-day a b c = row 7 7 a ∷ row 0 2 b ∷ row 4 6 c ∷ []
+
+-- a beacon that sends all day, and two rows for each receiver
+pairs : ℕ → List Row
+pairs m = row 7 7 m ∷ row 0 2 0 ∷ row 0 2 0 ∷ row 4 6 0 ∷ row 4 6 0 ∷ []
+
+-- two beacons that send all day, and a row of one tick
+two : ℕ → ℕ → ℕ → List Row
+two a b c = row 7 7 a ∷ row 3 3 b ∷ row 0 1 c ∷ []
+
+-- a beacon that sends all day and a row of one tick, which only receiver 1 can hear; the first must be heard
+on-1 : ℕ → ℕ → List Row
+on-1 start end = row 7 7 3 ∷ row start end 2 ∷ []
 
 -- P1 to P12, and then request 2: "2 and 3 may and must on receiver 1 only, 4 and 5 may and must on receiver 2 only"
 pub cases : List Case
@@ -115,6 +132,28 @@ cases =
     ∷ run 100 closed-1 (alone 5) (plan 1 (2 ∷ []))
     -- "Refusal 7 now begins at mark 6"
     ∷ round 10 (equal 2 4 6) (refused Mark (equal 2 4 6))
+    -- request 3: "Three of them alone in a round, with mark 0, give labels 1 2 0", wherever they start
+    ∷ round 100 (row 0 0 0 ∷ row 0 0 0 ∷ row 0 0 0 ∷ []) (plan 2 (1 ∷ 2 ∷ 0 ∷ []))
+    ∷ round 100 (row 70 70 0 ∷ row 0 0 0 ∷ row 99 99 0 ∷ []) (plan 2 (1 ∷ 2 ∷ 0 ∷ []))
+    -- one of them has a receiver to itself; it is left out where it would cost two rows, unless it must be heard
+    ∷ round 10 (all-day 1 0 0) (plan 3 (1 ∷ 2 ∷ 2 ∷ []))
+    ∷ round 10 (all-day 5 0 0) (plan 3 (2 ∷ 1 ∷ 1 ∷ []))
+    ∷ round 10 (all-day 1 3 5) (refused NoPlan (all-day 1 3 5))
+    ∷ round 10 (pairs 0) (plan 4 (0 ∷ 1 ∷ 2 ∷ 1 ∷ 2 ∷ []))
+    ∷ round 10 (pairs 1) (plan 3 (1 ∷ 2 ∷ 0 ∷ 2 ∷ 0 ∷ []))
+    -- two of them that must be heard leave no receiver to any other row
+    ∷ round 10 (two 1 1 0) (plan 2 (1 ∷ 2 ∷ 0 ∷ []))
+    ∷ round 10 (two 1 1 1) (refused NoPlan (two 1 1 1))
+    ∷ round 10 (two 3 3 0) (refused NoPlan (two 3 3 0))
+    -- "covers every tick": its own start, the tick before its end, and tick 0
+    ∷ round 10 (on-1 7 8) (plan 1 (1 ∷ 0 ∷ []))
+    ∷ round 10 (on-1 6 7) (plan 1 (1 ∷ 0 ∷ []))
+    ∷ round 10 (on-1 0 1) (plan 1 (1 ∷ 0 ∷ []))
+    -- the shortest round
+    ∷ round 2 (row 1 1 0 ∷ row 0 1 0 ∷ row 1 0 0 ∷ []) (plan 3 (1 ∷ 2 ∷ 2 ∷ []))
+    -- "both must still be below R, and a run refuses it as before"
+    ∷ round 10 (row 10 10 0 ∷ []) (refused Window (row 10 10 0 ∷ []))
+    ∷ run 100 p9-hours (row 45 45 0 ∷ []) (refused Window (row 45 45 0 ∷ []))
     ∷ []
 
 -- each call gives what stands in the table, with 16,384 bytes of working space
@@ -123,5 +162,5 @@ Holds [] = Unit {0}
 Holds (c ∷ cs) = (planned (c .lent) (c .before) 16384 ≡ c .gives) × Holds cs
 
 pub bench : Holds cases
-unfolding planned cases on round run plan refused nines p2 p5 p9-hours p9 p12 middle last equal closed-1 alone
-bench = (refl, (refl, (refl, (refl, (refl, (refl, (refl, (refl, (refl, (refl, (refl, (refl, (refl, (refl, (refl, (refl, (refl, (refl, (refl, (refl, (refl, (refl, (refl, (refl, (refl, (refl, (refl, (refl, (refl, tt)))))))))))))))))))))))))))))
+unfolding planned cases on round run plan refused nines p2 p5 p9-hours p9 p12 middle last equal closed-1 alone all-day pairs two on-1
+bench = (refl, (refl, (refl, (refl, (refl, (refl, (refl, (refl, (refl, (refl, (refl, (refl, (refl, (refl, (refl, (refl, (refl, (refl, (refl, (refl, (refl, (refl, (refl, (refl, (refl, (refl, (refl, (refl, (refl, (refl, (refl, (refl, (refl, (refl, (refl, (refl, (refl, (refl, (refl, (refl, (refl, (refl, (refl, (refl, (refl, tt)))))))))))))))))))))))))))))))))))))))))))))

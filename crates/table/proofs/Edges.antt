@@ -61,14 +61,24 @@ pub round-hours : Plans 1 (1 ∷ []) (tableOf (settingOf Round 100 (hoursFrom 9 
 unfolding planned
 round-hours = refl
 
--- "end R in a run (taken) and in a round (6)"; an empty window
+-- "end R in a run (taken) and in a round (6)"
 pub ends :
     Plans 1 (1 ∷ []) (run 0 100 0 100 (row 90 100 0 ∷ [])) (5 ∷ []) 16384
     × Refused Window (round 100 (row 90 100 0 ∷ [])) (5 ∷ []) 16384
     × Refused Window (run 0 100 0 100 (row 90 101 0 ∷ [])) (5 ∷ []) 16384
-    × Refused Window (run 0 100 0 100 (row 90 90 0 ∷ [])) (5 ∷ []) 16384
 unfolding planned
-ends = (refl, refl, refl, refl)
+ends = (refl, refl, refl)
+
+-- start equal to end: in a round "both must still be below R", "and a run refuses it as before"
+pub all-day :
+    Plans 1 (1 ∷ []) (round 100 (row 0 0 0 ∷ [])) (5 ∷ []) 16384
+    × Plans 1 (1 ∷ []) (round 100 (row 99 99 0 ∷ [])) (5 ∷ []) 16384
+    × Refused Window (round 100 (row 100 100 0 ∷ [])) (5 ∷ []) 16384
+    × Refused Window (run 0 100 0 100 (row 0 0 0 ∷ [])) (5 ∷ []) 16384
+    × Refused Window (run 0 100 0 100 (row 90 90 0 ∷ [])) (5 ∷ []) 16384
+    × Refused Window (run 0 100 0 100 (row 100 100 0 ∷ [])) (5 ∷ []) 16384
+unfolding planned
+all-day = (refl, refl, refl, refl, refl, refl)
 
 -- "Refusal 7 now begins at mark 6", in a round and in a run; a mark has eight bits
 pub marks :
@@ -83,12 +93,12 @@ marks = (refl, refl, refl, refl, refl)
 -- "1, 2, 3, 4, 5, then rows from 0, each for 6 and then 7": of two faults the first is reported
 pub order :
     Refused Lists (table (settingOf Round 1 noHours) (replicate 65 1) (replicate 64 2) (replicate 65 9)) (replicate 65 5) 0
-    × Refused Rows (round 1 (replicate 65 (row 3 3 9))) (replicate 65 5) 0
-    × Refused Space (round 1 (row 3 3 9 ∷ [])) (5 ∷ []) 0
+    × Refused Rows (round 1 (replicate 65 (row 3 100 9))) (replicate 65 5) 0
+    × Refused Space (round 1 (row 3 100 9 ∷ [])) (5 ∷ []) 0
     × Refused Ticks (tableOf (settingOf Run 1 (hoursFrom 9 8 0 0)) (row 3 3 9 ∷ [])) (5 ∷ []) 16384
     × Refused Hours (run 9 8 0 0 (row 3 3 9 ∷ [])) (5 ∷ []) 16384
-    × Refused Window (round 100 (row 3 3 9 ∷ [])) (5 ∷ []) 16384
-    × Refused Mark (round 100 (row 3 4 9 ∷ row 3 3 0 ∷ [])) (5 ∷ 5 ∷ []) 16384
+    × Refused Window (round 100 (row 3 100 9 ∷ [])) (5 ∷ []) 16384
+    × Refused Mark (round 100 (row 3 4 9 ∷ row 3 100 0 ∷ [])) (5 ∷ 5 ∷ []) 16384
 unfolding planned
 order = (refl, refl, refl, refl, refl, refl, refl)
 
@@ -103,8 +113,8 @@ lists = (refl, refl, refl, refl)
 
 -- how many rows the checks look at: k + 1 if they stop at row k, all if they pass, none before the rows
 pub rows-looked :
-    (tableLooked (round 100 (row 1 2 0 ∷ row 3 3 0 ∷ row 1 2 0 ∷ [])) ≡ looked Window 2)
-    × (tableLooked (round 100 (row 1 2 9 ∷ row 3 3 0 ∷ [])) ≡ looked Mark 1)
+    (tableLooked (round 100 (row 1 2 0 ∷ row 3 100 0 ∷ row 1 2 0 ∷ [])) ≡ looked Window 2)
+    × (tableLooked (round 100 (row 1 2 9 ∷ row 3 100 0 ∷ [])) ≡ looked Mark 1)
     × (tableLooked (round 100 (row 1 2 0 ∷ row 3 4 1 ∷ [])) ≡ looked Accepted 2)
     × (tableLooked (round 1 (row 1 2 0 ∷ [])) ≡ looked Ticks 0)
 unfolding tableLooked

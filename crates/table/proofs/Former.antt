@@ -1,7 +1,7 @@
 -- Tables that do not use what a request of paper 02 brought keep their plans, and so a call gives what it gave.
 use Prim.Native.Nat.{ℕ, zero, suc, _≤_}
 use mathlib.Core.Path.{_≡_, refl, sym, _∙_}
-use mathlib.Core.Logic.{_↔_, inl, Iff·rfl, Iff·symm}
+use mathlib.Core.Logic.{_≢_, _↔_, inl, Iff·rfl, Iff·symm, Iff·trans}
 use mathlib.Core.List.{List}
 use mathlib.Core.Option.{Option, none, some}
 use native.Mathlib.Omega.{arith}
@@ -12,12 +12,14 @@ use Rattle.window.specs.declared.Kind.the-variants.{Round, Run}
 use Rattle.marks.specs.Marks.{maxMark}
 use Rattle.marks.proofs.Allowing.{must-least, either-least}
 use Rattle.window.specs.declared.Row.{Row}
+use Rattle.window.specs.Windows.{Window}
+use Rattle.window.proofs.AllDay.{window-kept-3, overlap-kept-3}
 use Rattle.refusals.proofs.Refusals.{Passed}
 use Rattle.table.specs.declared.Setting.{Setting}
-use Rattle.table.specs.Tables.{Table, rows, rowAt, Open, Allowed, Plan, Valid}
+use Rattle.table.specs.Tables.{Table, rows, rowAt, Open, Allowed, Clash, Plan, Valid}
 use Rattle.table.specs.Checks.{rowRefusal}
 use Rattle.table.specs.Planned.{Planned, checked, bestPlan, planned}
-use Rattle.table.specs.Former.{PlannedBy, OpenBefore2, AllowedBefore2, PlanBefore2, rowRefusalBefore2, OnlyMarks01}
+use Rattle.table.specs.Former.{PlannedBy, ClashBefore3, PlanBefore3, rowRefusalBefore3, NoneAllDay, OpenBefore2, AllowedBefore2, PlanBefore2, rowRefusalBefore2, OnlyMarks01}
 use Rattle.table.proofs.Checked.{checked-valid}
 use Rattle.table.proofs.Rivals.{best-plan, no-plan, only-best, only-none}
 
@@ -45,6 +47,32 @@ module _ (t : Table) (before : List ℕ) (space : ℕ) (p : Passed (checked t be
           let b = best-plan t valid a .0 e in
           g .best a (best-iff plans b) ∙ sym (only-best t before space p a b)
 
+-- ---- request 3
+
+module _ (S : Setting) where
+  -- checks 6 and 7 of a row that does not send all day,
+  pub row-check-kept-3 : (row : Row) → row .start ≢ row .end → rowRefusal S row ≡ rowRefusalBefore3 S row
+  unfolding rowRefusal rowRefusalBefore3
+  row-check-kept-3 row d = rw (window-kept-3 (S .kind) (S .ticks) (row .start) (row .end) d) refl
+
+  -- and of every row of a run: "a run refuses it as before"
+  pub row-check-run-3 : (row : Row) → S .kind ≡ Run → rowRefusal S row ≡ rowRefusalBefore3 S row
+  unfolding rowRefusal rowRefusalBefore3
+  row-check-run-3 row e = rw e refl
+
+  clash-kept-3 : (row row′ : Row) → row .start ≢ row .end → row′ .start ≢ row′ .end → Clash S row row′ ↔ ClashBefore3 S row row′
+  clash-kept-3 row row′ = overlap-kept-3 (S .kind) (S .ticks) (row .start) (row .end) (row′ .start) (row′ .end)
+
+-- so that no row of a run which passes its checks sends all day
+pub run-none-all-day : (t : Table) → Valid t → t .setting .kind ≡ Run → NoneAllDay t
+run-none-all-day t valid e i h q =
+    let w : Window Run (t .setting .ticks) (rowAt t i .start) (rowAt t i .end) = rw e at (valid .row i h .window) in
+    absurd (omega (arith, w .0))
+
+-- TABLES WITHOUT BEACONS THAT SEND ALL DAY, whatever their marks, KEEP THEIR PLANS
+pub plans-kept-3 : (t : Table) → NoneAllDay t → (l : List ℕ) → Plan t l ↔ PlanBefore3 t l
+plans-kept-3 t differ = assignment-iff (rows t) (λ i x h. Iff·rfl) (λ i j h k d. clash-kept-3 (t .setting) (rowAt t i) (rowAt t j) (differ i h) (differ j k))
+
 -- ---- request 2
 
 open-kept-2 : (kind : Kind) (hours : List (List ℕ)) (row : Row) (x : ℕ) → Open kind hours row x ↔ OpenBefore2 kind hours row x
@@ -67,19 +95,29 @@ module _ (S : Setting) (row : Row) (h : row .mark ≤ 1) where
       )
 
   -- checks 6 and 7 of such a row
-  pub row-check-kept-2 : rowRefusal S row ≡ rowRefusalBefore2 S row
-  unfolding rowRefusal rowRefusalBefore2
+  pub row-check-kept-2 : rowRefusalBefore3 S row ≡ rowRefusalBefore2 S row
+  unfolding rowRefusalBefore3 rowRefusalBefore2
   row-check-kept-2 = rw (le-leb (row .mark) 1 h, le-leb (row .mark) maxMark (omega arith)) refl
 
-module _ (t : Table) (old : OnlyMarks01 t) where
-  -- "TABLES WITH ONLY 0 AND 1 KEEP THEIR PLANS",
-  pub plans-kept-2 : (l : List ℕ) → Plan t l ↔ PlanBefore2 t l
-  plans-kept-2 = assignment-iff (rows t) (λ i x h. allowed-kept-2 (t .setting) (rowAt t i) (old i h) x) (λ i j h k d. Iff·rfl)
+-- "TABLES WITH ONLY 0 AND 1 KEEP THEIR PLANS"
+pub plans-kept-2 : (t : Table) → OnlyMarks01 t → (l : List ℕ) → PlanBefore3 t l ↔ PlanBefore2 t l
+plans-kept-2 t old = assignment-iff (rows t) (λ i x h. allowed-kept-2 (t .setting) (rowAt t i) (old i h) x) (λ i j h k d. Iff·rfl)
 
-  -- and so the planner gives what it gave
-  module _ (before : List ℕ) (space : ℕ) (p : Passed (checked t before space)) where
+-- ---- and so the planner gives what it gave
+
+module _ (t : Table) (differ : NoneAllDay t) (before : List ℕ) (space : ℕ) (p : Passed (checked t before space)) where
+  pub planned-kept-3 : PlannedBy (PlanBefore3 t) before (planned t before space)
+  planned-kept-3 = planned-by t before space p (PlanBefore3 t) (plans-kept-3 t differ)
+
+  pub planned-only-3 : (gave : Planned) → PlannedBy (PlanBefore3 t) before gave → gave ≡ planned t before space
+  planned-only-3 = planned-only t before space p (PlanBefore3 t) (plans-kept-3 t differ)
+
+  module _ (old : OnlyMarks01 t) where
+    both : (l : List ℕ) → Plan t l ↔ PlanBefore2 t l
+    both l = Iff·trans (plans-kept-3 t differ l) (plans-kept-2 t old l)
+
     pub planned-kept-2 : PlannedBy (PlanBefore2 t) before (planned t before space)
-    planned-kept-2 = planned-by t before space p (PlanBefore2 t) plans-kept-2
+    planned-kept-2 = planned-by t before space p (PlanBefore2 t) both
 
     pub planned-only-2 : (gave : Planned) → PlannedBy (PlanBefore2 t) before gave → gave ≡ planned t before space
-    planned-only-2 = planned-only t before space p (PlanBefore2 t) plans-kept-2
+    planned-only-2 = planned-only t before space p (PlanBefore2 t) both

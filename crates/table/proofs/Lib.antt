@@ -8,5 +8,6 @@ pub mod Checked
 pub mod Rivals
 pub mod Former
 pub mod Request2
+pub mod Request3
 pub mod Calls
 pub mod Passing

@@ -10,7 +10,7 @@ use lib.ListN.{length}
 use Rattle.basics.specs.Lists.{at}
 use Rattle.basics.proofs.Tests.{leb-iff, eqb-iff, and-iff, not-iff, imp-iff, every-iff}
 use Rattle.marks.specs.Marks.{Must, Receiver1Only, Receiver2Only}
-use Rattle.marks.proofs.Allowing.{allows-iff}
+use Rattle.marks.proofs.Allowing.{allows-iff, must-least, either-least}
 use Rattle.window.specs.declared.Kind.{Kind}
 use Rattle.window.specs.declared.Kind.the-variants.{Round, Run}
 use Rattle.window.specs.declared.Row.{Row}
@@ -36,6 +36,17 @@ module _ (S : Setting) (row : Row) where
       clauses : (isAllowed S row x ≡ true)
           ↔ (((x ≤ 2) × (((Must (row .mark) → x ≢ 0) × (Receiver1Only (row .mark) → x ≢ 2)) × (Receiver2Only (row .mark) → x ≢ 1))) × Open (S .kind) (S .hours) row x)
       clauses = and-iff (and-iff (leb-iff x 2) (allows-iff (row .mark) x)) (open-iff (S .kind) (S .hours) row x)
+
+  -- mark 0 asks nothing of a label
+  pub unmarked : row .mark ≡ 0 → (x : ℕ) → x ≤ 2 → Open (S .kind) (S .hours) row x → Allowed S row x
+  unmarked m x l o =
+      record {
+        known = l;
+        must = λ e. absurd (omega (arith, must-least (row .mark) e));
+        receiver-1 = λ e. absurd (omega (arith, either-least (row .mark) 2 3 (omega arith) e));
+        receiver-2 = λ e. absurd (omega (arith, either-least (row .mark) 4 5 (omega arith) e));
+        hours = o;
+      }
 
   module _ (row′ : Row) where
     pub clashes-iff : ValidRow S row → ValidRow S row′ → (clashes S row row′ ≡ true) ↔ Clash S row row′

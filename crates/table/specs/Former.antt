@@ -1,5 +1,5 @@
 -- Believed: Definitions that a request of paper 02 replaced, word for word as they stood before it and with what they rest on: what "keep their plans" compares with. A name that
--- ends in Before2 is that of a definition that request 2 replaced. No contract cites them.
+-- ends in Before2 is that of a definition that request 2 replaced, and so on; of windows they stand in the crate `window`. No contract cites them.
 use Prim.Native.Nat.{ℕ, zero, suc, _≤_, _<_}
 use mathlib.Core.Path.{_≡_}
 use mathlib.Core.Logic.{_≢_}
@@ -11,18 +11,37 @@ use Rattle.window.specs.declared.Kind.{Kind}
 use Rattle.window.specs.declared.Kind.the-variants.{Round, Run}
 use Rattle.window.specs.declared.Row.{Row}
 use Rattle.window.specs.Hours.{hour}
-use Rattle.window.specs.Windows.{isWindow}
+use Rattle.window.specs.Former.{OverlapBefore3, isWindowBefore3}
+use Rattle.marks.specs.Marks.{maxMark}
 use Rattle.refusals.specs.declared.Refusal.{Refusal}
 use Rattle.refusals.specs.declared.Refusal.the-variants.{Window, Mark}
 use Rattle.refusals.specs.Refusals.{asked, _then_}
 use Rattle.table.specs.declared.Setting.{Setting}
-use Rattle.table.specs.Tables.{Table, rows, rowAt, Clash}
+use Rattle.table.specs.Tables.{Table, rows, rowAt, Allowed}
 use Rattle.table.specs.Planned.{Planned, given}
 
 -- What a call gives that passes all checks before 8, for a table whose plans are C: the best of them, or refusal 8 where there is none.
 pub record PlannedBy (C : List ℕ → Type 0) (before : List ℕ) (gave : Planned) : Type 0 where
   pub best : (labels : List ℕ) → Best C labels → gave ≡ given (some labels) before
   pub none : ((rival : List ℕ) → C rival → ⊥) → gave ≡ given none before
+
+-- ---- before request 3: start and end differ
+
+-- two rows cannot be heard by one receiver: their windows overlap
+abbrev pub ClashBefore3 : Setting → Row → Row → Type 0
+ClashBefore3 S row row′ = OverlapBefore3 (S .kind) (S .ticks) (row .start) (row .end) (row′ .start) (row′ .end)
+
+-- "Labels are a plan": request 3 replaced `Clash` alone
+abbrev pub PlanBefore3 : Table → List ℕ → Type 0
+PlanBefore3 t = Assignment (rows t) (λ i. Allowed (t .setting) (rowAt t i)) (λ i j. ClashBefore3 (t .setting) (rowAt t i) (rowAt t j))
+
+-- "6: a window breaks the rules above", "Refusal 7 now begins at mark 6" (request 2 of paper 02): one row, "for 6 and then 7"
+unfoldable pub rowRefusalBefore3 : Setting → Row → Refusal
+rowRefusalBefore3 S row = asked (isWindowBefore3 (S .kind) (S .ticks) (row .start) (row .end)) Window then asked (leb (row .mark) maxMark) Mark
+
+-- tables without beacons that send all day
+abbrev pub NoneAllDay : Table → Type 0
+NoneAllDay t = (i : ℕ) → i < rows t → rowAt t i .start ≢ rowAt t i .end
 
 -- ---- before request 2: a mark is 0 or 1
 
@@ -38,13 +57,13 @@ pub record AllowedBefore2 (S : Setting) (row : Row) (label : ℕ) : Type 0 where
   pub must : row .mark ≡ 1 → label ≢ 0
   pub hours : OpenBefore2 (S .kind) (S .hours) row label
 
--- "Labels are a plan": request 2 replaced `Allowed` alone
+-- "Labels are a plan": request 2 replaced `Allowed` alone, and `Clash` was still what request 3 replaced
 abbrev pub PlanBefore2 : Table → List ℕ → Type 0
-PlanBefore2 t = Assignment (rows t) (λ i. AllowedBefore2 (t .setting) (rowAt t i)) (λ i j. Clash (t .setting) (rowAt t i) (rowAt t j))
+PlanBefore2 t = Assignment (rows t) (λ i. AllowedBefore2 (t .setting) (rowAt t i)) (λ i j. ClashBefore3 (t .setting) (rowAt t i) (rowAt t j))
 
 -- "6: a window breaks the rules above", "7: a mark above 1": one row, "for 6 and then 7"
 unfoldable pub rowRefusalBefore2 : Setting → Row → Refusal
-rowRefusalBefore2 S row = asked (isWindow (S .kind) (S .ticks) (row .start) (row .end)) Window then asked (leb (row .mark) 1) Mark
+rowRefusalBefore2 S row = asked (isWindowBefore3 (S .kind) (S .ticks) (row .start) (row .end)) Window then asked (leb (row .mark) 1) Mark
 
 -- "Tables with only 0 and 1"
 abbrev pub OnlyMarks01 : Table → Type 0

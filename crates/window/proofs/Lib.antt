@@ -1,3 +1,4 @@
 -- Laws of ticks and windows.
 pub mod Circle
 pub mod Meaning
+pub mod AllDay

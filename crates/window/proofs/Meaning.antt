@@ -4,10 +4,11 @@ use mathlib.Core.Path.{_≡_, refl, _∙_, ap, sym}
 use mathlib.Core.Logic.{_≢_, _↔_, _⊎_, inl, inr, ⊎-elim}
 use mathlib.Core.Bool.{Bool, true, false, cond, _&&_, _||_, false≢true, or-true}
 use native.Mathlib.Omega.{arith}
+use native.Mathlib.Decide.{ℕ-discrete}
 use native.Mathlib.Nat.{le-of-lt}
 use lib.Dec.{leb, ltb}
 use borrow.Author.Tests.{ltb-true, lt-ltb, le-ltb, le-leb, eq-eqb, ne-eqb}
-use Rattle.basics.proofs.Tests.{Test, pass, fail, test, bool-ext, leb-iff, ltb-iff, eqb-iff, and-iff, not-iff}
+use Rattle.basics.proofs.Tests.{Test, pass, fail, test, bool-ext, leb-iff, ltb-iff, and-iff}
 use Rattle.window.specs.declared.Kind.{Kind}
 use Rattle.window.specs.declared.Kind.the-variants.{Round, Run}
 use Rattle.window.specs.Ticks.{Ticks, distance}
@@ -17,13 +18,7 @@ use Rattle.window.proofs.Circle.{distance-after, distance-before}
 -- ---- check 6
 
 pub window-iff : (kind : Kind) (R s e : ℕ) → (isWindow kind R s e ≡ true) ↔ Window kind R s e
-window-iff Round R s e = (
-  λ h. let f = both .0 h in (f .0 .0, f .0 .1, f .1),
-  λ h. both .1 ((h .0, h .1), h .2),
-)
-  where
-    both : (isWindow Round R s e ≡ true) ↔ (((s < R) × (e < R)) × (s ≢ e))
-    both = and-iff (and-iff (ltb-iff s R) (ltb-iff e R)) (not-iff (eqb-iff s e))
+window-iff Round R s e = and-iff (ltb-iff s R) (ltb-iff e R)
 window-iff Run R s e = and-iff (ltb-iff s e) (leb-iff e R)
 
 pub window-end : (kind : Kind) (R s e : ℕ) → Window kind R s e → e ≤ R
@@ -103,21 +98,21 @@ module _ (R s e : ℕ) (w : Window Round R s e) {t : ℕ} (ht : t < R) (h : e �
       record {
         steps = t - s;
         reached = walk-on R s (t - s) (omega arith) ∙ omega arith;
-        before = λ k l. omega (arith, walk-on R s k (omega arith), w .2);
+        before = λ k m l. omega (arith, walk-on R s k (omega arith));
       }
   wrap-there (early f g) =
       record {
         steps = t + (R - s);
         reached = walk-past R s t (w .0) ht;
-        before = λ k l. go k l (test (R - s) k);
+        before = λ k m l. go k (omega arith) l (test (R - s) k);
       }
     where
-      go : (k : ℕ) {b : Bool} → k ≤ t + (R - s) → Test (R - s) k b → walk Round R s k ≢ e
-      go k l (pass m) q =
+      go : (k : ℕ) {b : Bool} → 1 ≤ k → k ≤ t + (R - s) → Test (R - s) k b → walk Round R s k ≢ e
+      go k m l (pass n) q =
           let p : walk Round R s (k - (R - s) + (R - s)) ≡ k - (R - s) = walk-past R s (k - (R - s)) (w .0) (omega arith) in
           let z : k - (R - s) + (R - s) ≡ k = omega arith in
           omega (arith, sym (ap (walk Round R s) z) ∙ p)
-      go k l (fail m) q = omega (arith, walk-on R s k (omega arith), w .2)
+      go k m l (fail n) q = omega (arith, walk-on R s k (omega arith))
 
   wrap-back : Covers Round R s e t → In s e t
   wrap-back x = go (test (R - s) (x .steps))
@@ -129,7 +124,7 @@ module _ (R s e : ℕ) (w : Window Round R s e) {t : ℕ} (ht : t < R) (h : e �
           early h (omega (arith, sym (ap (walk Round R s) z) ∙ p, x .reached))
 
       bounded : {b : Bool} → R - s ≤ x .steps → Test (e + (R - s)) (x .steps) b → In s e t
-      bounded m (pass l) = absurd (x .before (e + (R - s)) l (walk-past R s e (w .0) (w .1)))
+      bounded m (pass l) = absurd (x .before (e + (R - s)) (omega arith) l (walk-past R s e (w .0) (w .1)))
       bounded m (fail l) = past l m
 
       go : {b : Bool} → Test (R - s) (x .steps) b → In s e t
@@ -143,7 +138,7 @@ module _ (kind : Kind) (R s e : ℕ) (w : Window kind R s e) {t : ℕ} (h : s < 
       record {
         steps = t - s;
         reached = straight kind R s e w (t - s) (omega arith) ∙ omega arith;
-        before = λ k m. omega (arith, straight kind R s e w k (omega arith));
+        before = λ k m n. omega (arith, straight kind R s e w k (omega arith));
       }
   straight-there (late f g) = absurd (omega arith)
   straight-there (early f g) = absurd (omega arith)
@@ -152,7 +147,7 @@ module _ (kind : Kind) (R s e : ℕ) (w : Window kind R s e) {t : ℕ} (h : s < 
   straight-back x = go (test (e - s) (x .steps))
     where
       go : {b : Bool} → Test (e - s) (x .steps) b → In s e t
-      go (pass l) = absurd (x .before (e - s) l (straight kind R s e w (e - s) (omega arith) ∙ omega arith))
+      go (pass l) = absurd (x .before (e - s) (omega arith) l (straight kind R s e w (e - s) (omega arith) ∙ omega arith))
       go (fail l) = plain h (omega (arith, straight kind R s e w (x .steps) (omega arith), x .reached)) (omega (arith, straight kind R s e w (x .steps) (omega arith), x .reached))
 
 in-iff : (kind : Kind) (R s e : ℕ) → Window kind R s e → {t : ℕ} → t < R → In s e t ↔ Covers kind R s e t
@@ -174,6 +169,9 @@ start-in s e = go (test (suc s) e)
     go : {p : Bool} → Test (suc s) e p → In s e s
     go (pass h) = plain h (omega arith) h
     go (fail h) = late (omega arith) (omega arith)
+
+pub covers-start : (kind : Kind) (R s e : ℕ) → Window kind R s e → Covers kind R s e s
+covers-start kind R s e w = in-iff kind R s e w (window-start kind R s e w) .0 (start-in s e)
 
 -- windows that share a tick: one of them has the other's start
 meet : {s e s′ e′ t : ℕ} → s ≤ s′ → In s e t → In s′ e′ t → In s e s′ ⊎ In s′ e′ s
@@ -204,13 +202,10 @@ overlaps-iff kind R s e s′ e′ v w = (there, back)
     below′ : s′ < R
     below′ = window-start kind R s′ e′ w
 
-    covers-start : (x y : ℕ) → Window kind R x y → x < R → Covers kind R x y x
-    covers-start x y u h = in-iff kind R x y u h .0 (start-in x y)
-
     there : covers s e s′ || covers s′ e′ s ≡ true → Overlap kind R s e s′ e′
     there x = ⊎-elim
-        (λ h. record { tick = s′; below = below′; in-first = covers-iff kind R s e v s′ below′ .0 h; in-second = covers-start s′ e′ w below′ })
-        (λ h. record { tick = s; below = below; in-first = covers-start s e v below; in-second = covers-iff kind R s′ e′ w s below .0 h })
+        (λ h. record { tick = s′; below = below′; in-first = covers-iff kind R s e v s′ below′ .0 h; in-second = covers-start kind R s′ e′ w })
+        (λ h. record { tick = s; below = below; in-first = covers-start kind R s e v; in-second = covers-iff kind R s′ e′ w s below .0 h })
         (or-cases (covers s e s′) (covers s′ e′ s) x)
 
     back : Overlap kind R s e s′ e′ → covers s e s′ || covers s′ e′ s ≡ true
@@ -258,15 +253,19 @@ module _ (kind : Kind) (R s e : ℕ) (w : Window kind R s e) where
   ticks-straight = go kind w
     where
       go : (kind : Kind) → Window kind R s e → s < e → ticksIn kind R s e ≡ e - s
-      go Round w h = sym (distance-after R s e (record { start-below = w .0; tick-below = w .1 }) (le-of-lt h))
+      go Round w h = rw (ne-eqb s e (λ q. omega arith)) (sym (distance-after R s e (record { start-below = w .0; tick-below = w .1 }) (le-of-lt h)))
       go Run w h = refl
 
   ticks-wrapped : e ≤ s → ticksIn kind R s e + s ≡ e + R
   unfolding ticksIn
   ticks-wrapped = go kind w
     where
+      round : Window Round R s e → Dec (s ≡ e) → e ≤ s → ticksIn Round R s e + s ≡ e + R
+      round w (yes q) h = rw (eq-eqb s e q) (omega arith)
+      round w (no n) h = rw (ne-eqb s e n) (omega (arith, distance-before R s e (record { start-below = w .0; tick-below = w .1 }) (omega (arith, n))))
+
       go : (kind : Kind) → Window kind R s e → e ≤ s → ticksIn kind R s e + s ≡ e + R
-      go Round w h = omega (arith, distance-before R s e (record { start-below = w .0; tick-below = w .1 }) (omega (arith, w .2)))
+      go Round w h = round w (ℕ-discrete s e) h
       go Run w h = absurd (omega arith)
 
   pub ticks-some : 1 ≤ ticksIn kind R s e

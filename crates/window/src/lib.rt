@@ -38,9 +38,7 @@ pub fn is_window(kind: Kind, ticks: u16, start: u16, end: u16) -> bool
     match kind {
         Kind::Round => {
             if start < ticks {
-                if end < ticks {
-                    return start != end;
-                }
+                return end < ticks;
             }
             false
         }
@@ -59,7 +57,13 @@ pub fn ticks_in(kind: Kind, ticks: u16, start: u16, end: u16) -> u16
     ensures { λ r. ⌜ r ≡ ticksIn kind ticks start end ⌝ }
 {
     match kind {
-        Kind::Round => distance(ticks, start, end),
+        Kind::Round => {
+            // A distance of 0 is a length of R.
+            if start == end {
+                return ticks;
+            }
+            distance(ticks, start, end)
+        }
         Kind::Run => end - start,
     }
 }

@@ -4,7 +4,7 @@ use native.Mathlib.Omega.{arith}
 use borrow.Author.Needs.{needs}
 use borrow.Author.Tests.{lt-ltb, le-ltb, not-true, not-false}
 use Rattle.player.specs.Played.{startRefusal, started}
-use Rattle.player.proofs.Request.{start-said}
+use Rattle.player.proofs.Request1.{start-said}
 use Rattle.player.proofs.start.Statement.{statement}
 use Rattle.player.proofs.start.Tie as tie
 
