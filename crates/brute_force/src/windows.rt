@@ -1,4 +1,4 @@
-// Which ticks a window covers, and which labels its row may have, as paper 01 and request 2 of paper 02 say it.
+// Which ticks a window covers, and which labels its row may have, as paper 01 and requests 2 and 3 of paper 02 say it.
 // A set of ticks is a number whose bit t says that tick t, below 64, is in it.
 
 pub enum Kind {
@@ -12,21 +12,22 @@ fn one(tick: u16) -> u64 {
 }
 
 // The tick after `tick`, "going from R-1 to 0".
-fn after(ticks: u16, tick: u16) -> u16 {
+pub fn after(ticks: u16, tick: u16) -> u16 {
     let next = std::num::wrapping_add_u16(tick, 1);
     if next < ticks { next } else { 0 }
 }
 
-// "The window covers start, start+1 and so on, going from R-1 to 0, up to the tick before end": a walk that ends within one turn.
+// "The window covers start, start+1 and so on, going from R-1 to 0, up to the tick before end"; "start equal to end now covers every tick" (request 3).
+// So the start is covered, and the walk ends where it comes to end after at least one step, which is within one turn.
 pub fn round_set(ticks: u16, start: u16, end: u16) -> u64 {
     let mut set: u64 = 0;
     let mut tick = start;
     for step in 0..ticks {
+        set = set | one(tick);
+        tick = after(ticks, tick);
         if tick == end {
             return set;
         }
-        set = set | one(tick);
-        tick = after(ticks, tick);
     }
     set
 }

@@ -52,7 +52,7 @@ fn ticks(group: Group) -> Group {
 // ---- windows and marks
 
 // One row in a round of 100 ticks.
-fn round_row(group: Group, start: u16, end: u16, mark: u8, number: u8, labels: &[u8]) -> Group {
+pub fn round_row(group: Group, start: u16, end: u16, mark: u8, number: u8, labels: &[u8]) -> Group {
     with_case(
         group,
         in_round(100, &[start], &[end], &[mark], number, labels),
@@ -60,7 +60,7 @@ fn round_row(group: Group, start: u16, end: u16, mark: u8, number: u8, labels: &
 }
 
 // One row in a run of 100 ticks, open all the time.
-fn run_row(group: Group, start: u16, end: u16, mark: u8, number: u8, labels: &[u8]) -> Group {
+pub fn run_row(group: Group, start: u16, end: u16, mark: u8, number: u8, labels: &[u8]) -> Group {
     let right = in_run(
         100,
         [[0, 100], [0, 100]],
@@ -73,14 +73,13 @@ fn run_row(group: Group, start: u16, end: u16, mark: u8, number: u8, labels: &[u
     with_case(group, right)
 }
 
-// "In a round, start and end are both below R and differ." End 0 means through tick R-1.
+// "In a round, start and end are both below R"; where they are equal see `all_day`. End 0 means through tick R-1.
 fn round_windows(group: Group) -> Group {
     let mut g = round_row(group, 90, 100, 0, 6, &[]);
     g = round_row(g, 90, 0, 0, 0, &[1]);
     g = round_row(g, 90, 10, 0, 0, &[1]);
     g = round_row(g, 100, 10, 0, 6, &[]);
     g = round_row(g, 99, 98, 1, 0, &[1]);
-    g = round_row(g, 3, 3, 0, 6, &[]);
     g = round_row(g, 65535, 3, 0, 6, &[]);
     round_row(g, 3, 65535, 0, 6, &[])
 }

@@ -71,7 +71,7 @@ fn untouched(group: Group) -> Group {
     g = with_case(g, faulty(100, 0, 10, 4, 16383, 3, &[]));
     g = with_case(g, faulty(43201, 0, 10, 4, LENT_BYTES, 4, &[]));
     g = with_case(g, in_hours(51, 0, 5, &[]));
-    g = with_case(g, faulty(100, 0, 90, 4, LENT_BYTES, 6, &[]));
+    g = with_case(g, faulty(100, 0, 100, 4, LENT_BYTES, 6, &[]));
     with_case(g, faulty(100, 6, 10, 4, LENT_BYTES, 7, &[]))
 }
 

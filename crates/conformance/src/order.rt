@@ -56,10 +56,10 @@ fn rows_faulty(group: Group, end: u16, mark: u8, number: u8) -> Group {
     with_case(group, right)
 }
 
-// Row 0 has a mark above 5, row 1 an empty window; and the other way round.
+// Row 0 has a mark above 5, row 1 an end at R; and the other way round.
 fn rows_in_order(group: Group) -> Group {
-    let mark_first = in_round(10, &[1, 3], &[2, 3], &[9, 0], 7, &[]);
-    let window_first = in_round(10, &[3, 1], &[3, 2], &[0, 9], 6, &[]);
+    let mark_first = in_round(10, &[1, 3], &[2, 10], &[9, 0], 7, &[]);
+    let window_first = in_round(10, &[3, 1], &[10, 2], &[0, 9], 6, &[]);
     with_case(with_case(group, mark_first), window_first)
 }
 
@@ -70,12 +70,12 @@ fn planner_order(group: Group) -> Group {
     g = faulty(g, 10, 11, LENT_BYTES, 5);
     g = faulty(g, 10, 0, LENT_BYTES, 6);
     g = rows_in_order(g);
-    g = rows_faulty(g, 3, 9, 6);
+    g = rows_faulty(g, 10, 9, 6);
     g = rows_faulty(g, 4, 6, 7);
     rows_faulty(g, 4, 0, 8)
 }
 
-// Rows 4–5 and 4–5 in a round of 10 ticks with these labels, handed to the writer.
+// Rows 4–5 and 4 to `end` in a round of 10 ticks with these labels, handed to the writer.
 fn taped(group: Group, end: u16, mark: u8, labels: &[u8], bytes: usize, number: u8) -> Group {
     let right = is_taped(
         Kind::Round,
@@ -97,8 +97,8 @@ fn writer_order(group: Group) -> Group {
     let mut g = faulty_taped(group, 1, 11, 4);
     g = faulty_taped(g, 10, 11, 5);
     g = faulty_taped(g, 10, 0, 6);
-    g = taped(g, 4, 6, &[1], 0, 1);
-    g = taped(g, 4, 6, &[1, 1], 0, 6);
+    g = taped(g, 10, 6, &[1], 0, 1);
+    g = taped(g, 10, 6, &[1, 1], 0, 6);
     g = taped(g, 5, 6, &[1, 1], 0, 7);
     g = taped(g, 5, 0, &[1, 1], 0, 9);
     g = taped(g, 5, 3, &[1, 2], 0, 9);

@@ -1,4 +1,4 @@
-// "Plausible and wrong" of paper 01: for each line a case that the wrong method fails, with the right answer, which is compared.
+// "Plausible and wrong" of paper 01, and wrong meanings of a start equal to its end: for each a case that the wrong method fails, with the right answer, which is compared.
 use trial_calls::in_round;
 use trial_calls::in_run;
 use trial_report::Group;
@@ -74,11 +74,28 @@ fn blocked_must_row(group: Group) -> Group {
     four_rows(with_case(group, right), &[1, 1, 1, 1])
 }
 
+// "A start equal to its end is an empty window", as before request 3 of paper 02: in a round of 10 ticks 4–4 overlaps neither 2–4 nor 4–6, so that method
+// hears all on receiver 1, 1 1 1. Where the last two are 3–5 and 4–6 and all are must, it finds the plan 1 1 2.
+fn taken_as_empty(group: Group) -> Group {
+    let may = in_round(10, &[4, 2, 4], &[4, 4, 6], &[0, 0, 0], 0, &[1, 2, 2]);
+    let must = in_round(10, &[4, 3, 4], &[4, 5, 6], &[1, 1, 1], 8, &[]);
+    with_case(with_case(group, may), must)
+}
+
+// All ticks but the start: 4–4 does not overlap 4–5 then, so that method hears all of 4–4, 4–5 and 4–5, 1 1 2, and finds that plan where all are must.
+fn start_left_out(group: Group) -> Group {
+    let may = in_round(10, &[4, 4, 4], &[4, 5, 5], &[0, 0, 0], 0, &[1, 2, 0]);
+    let must = in_round(10, &[4, 4, 4], &[4, 5, 5], &[1, 1, 1], 8, &[]);
+    with_case(with_case(group, may), must)
+}
+
 pub fn all() -> Group {
     let mut g = no_cases();
     g = two_over_each_tick(g);
     g = dropped_at_tick_0(g);
     g = tighter_receiver(g);
     g = must_rows_first(g);
-    blocked_must_row(g)
+    g = blocked_must_row(g);
+    g = taken_as_empty(g);
+    start_left_out(g)
 }

@@ -199,6 +199,14 @@ pub fn write_tape(made: Stated, tape: &mut [u8]) -> usize {
     encode(head, made.rows, &starts, &ends, &list, tape)
 }
 
+// A run or a round of so many rows, made from a seed, each with start equal to end.
+pub fn all_day_by(run: bool, rows: usize, seed: u64) -> Stated {
+    let mut made = stated_by(run, rows, seed);
+    let starts = made.starts;
+    made.ends = starts;
+    made
+}
+
 // A run or a round of so many rows, made from a seed.
 pub fn stated_by(run: bool, rows: usize, seed: u64) -> Stated {
     let head = head_of(run, seed);

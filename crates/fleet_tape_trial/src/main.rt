@@ -12,6 +12,7 @@ use held::refused;
 use held::refused_with;
 use made::Head;
 use made::Stated;
+use made::all_day_by;
 use made::at_most;
 use made::below;
 use made::byte_of;
@@ -197,6 +198,15 @@ fn read_ends(run: bool, rows: usize, refusal: u8) -> Tally {
     one_more(c, false, read_end(run, rows, 0x30, 1, 11))
 }
 
+// ---- start equal to end: the reader "judges the form alone", in a round and in a run
+
+fn read_all_day(run: bool) -> Tally {
+    let made = all_day_by(run, 64, 33);
+    let mut tape = [0u8; 400];
+    let n = write_tape(made, &mut tape);
+    one_more(none(), true, accepted(front(&tape, n), made))
+}
+
 // ---- a byte changed
 
 // Whether a changed tape is of the form, and whether it is answered as it must be.
@@ -356,6 +366,10 @@ fn print_rows() {
     print_line(
         b"65 rows: ",
         both(read_ends(false, 65, 2), read_ends(true, 65, 2)),
+    );
+    print_line(
+        b"64 rows with start equal to end: ",
+        both(read_all_day(false), read_all_day(true)),
     );
 }
 

@@ -52,11 +52,18 @@ fn run_end(seed: u64, ticks: u16, start: u16) -> u16 {
     std::num::wrapping_add_u16(start, std::num::wrapping_add_u16(more, 1))
 }
 
-// An end for a window of a round: below R, and not its start.
+// How many ticks a window of a round covers: from 1 to R - 1, and for one row in sixteen all R. The chance of that lies in bits that `below` leaves out.
+fn length_by(seed: u64, ticks: u16) -> u64 {
+    if (seed / 4096) % 16 == 0 {
+        return ticks as u64;
+    }
+    let most = std::num::wrapping_sub_u16(ticks, 1);
+    std::num::wrapping_add_u64(below(seed, most as u64), 1)
+}
+
+// An end for a window of a round: below R, and its start where it sends all day.
 fn round_end(seed: u64, ticks: u16, start: u16) -> u16 {
-    let room = std::num::wrapping_sub_u16(ticks, 1);
-    let more = std::num::wrapping_add_u64(below(seed, room as u64), 1);
-    let end = std::num::wrapping_add_u64(start as u64, more);
+    let end = std::num::wrapping_add_u64(start as u64, length_by(seed, ticks));
     if end < ticks as u64 {
         return word(end);
     }

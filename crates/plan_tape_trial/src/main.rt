@@ -239,13 +239,13 @@ fn run_session() {
     run_call(0, as_run(30));
 }
 
-// Three labels for four rows, 65 rows, R 1, hours past R, an empty window, a mark 6.
+// Three labels for four rows, 65 rows, R 1, hours past R, an end at R, a mark 6.
 fn run_refused() {
     run_call(1, as_round(100, 4, 3, 400));
     run_call(2, as_round(100, 65, 65, 400));
     run_call(4, as_round(1, 4, 4, 400));
     run_call(5, as_run(101));
-    run_call(6, with_row_2(25, 0, 0));
+    run_call(6, with_row_2(100, 0, 0));
     run_call(7, with_row_2(50, 6, 0));
 }
 
@@ -263,6 +263,7 @@ fn run_not_plans() {
 struct Trial {
     both: bool,
     wraps: bool,
+    all_day: bool,
     mixed: bool,
     differs: bool,
 }
@@ -271,6 +272,7 @@ struct Trial {
 struct Tally {
     both: u64,
     wraps: u64,
+    all_day: u64,
     mixed: u64,
     differs: u64,
 }
@@ -286,6 +288,7 @@ fn add(tally: Tally, trial: Trial) -> Tally {
     Tally {
         both: more(tally.both, trial.both),
         wraps: more(tally.wraps, trial.wraps),
+        all_day: more(tally.all_day, trial.all_day),
         mixed: more(tally.mixed, trial.mixed),
         differs: more(tally.differs, trial.differs),
     }
@@ -302,21 +305,29 @@ fn has_label(labels: &[u8; 65], label: u8) -> bool {
     false
 }
 
-// Whether the window goes from R - 1 to 0 and the row is heard.
-fn is_wrapped(start: u16, end: u16, label: u8) -> bool {
-    if label == 0 {
-        return false;
-    }
+// Whether the window goes from R - 1 to 0.
+fn is_wrapped(start: u16, end: u16) -> bool {
     if end == 0 {
         return false;
     }
-    end < start
+    end <= start
 }
 
-fn has_wrapped(starts: &[u16; 65], ends: &[u16; 65], labels: &[u8; 65]) -> bool {
+// Whether the row is heard, and its window goes from R - 1 to 0 or, where that is asked, sends all day.
+fn is_heard(start: u16, end: u16, label: u8, all_day: bool) -> bool {
+    if label == 0 {
+        return false;
+    }
+    if all_day {
+        return start == end;
+    }
+    is_wrapped(start, end)
+}
+
+fn has_heard(starts: &[u16; 65], ends: &[u16; 65], labels: &[u8; 65], all_day: bool) -> bool {
     let mut i: usize = 0;
     while i < 65 {
-        if is_wrapped(starts[i], ends[i], labels[i]) {
+        if is_heard(starts[i], ends[i], labels[i], all_day) {
             return true;
         }
         i += 1;
@@ -429,7 +440,8 @@ fn try_plan(lent: Lent) -> Trial {
     let labels = lent.labels;
     Trial {
         both: has_both(&labels),
-        wraps: has_wrapped(&starts, &ends, &labels),
+        wraps: has_heard(&starts, &ends, &labels, false),
+        all_day: has_heard(&starts, &ends, &labels, true),
         mixed: has_any_mixed(&starts, &labels),
         differs: differs(lent),
     }
@@ -439,6 +451,7 @@ fn try_many(count: u64) -> Tally {
     let mut tally = Tally {
         both: 0,
         wraps: 0,
+        all_day: 0,
         mixed: 0,
         differs: 0,
     };
@@ -460,6 +473,7 @@ fn print_count(name: &[u8], count: u64) {
 fn print_tally(tally: Tally) {
     print_count(b"with both receivers in use ", tally.both);
     print_count(b"with a window that wraps ", tally.wraps);
+    print_count(b"with a window that sends all day ", tally.all_day);
     print_count(b"with rows out of start order ", tally.mixed);
     print_count(b"that differ ", tally.differs);
 }

@@ -1,4 +1,6 @@
 // Small tables whose answers are compared with those of the brute force, and of how many of them each fact holds.
+use crate::all_day;
+use crate::all_day::EveryTick;
 use crate::decided;
 use crate::decided::Decided;
 use crate::drawn;
@@ -21,9 +23,12 @@ pub struct Tally {
     pub none: u32,
     pub hours: u32,
     pub crossing: u32,
+    pub all_day: u32,
+    pub two_all_day: u32,
     pub tied: u32,
     pub rounds: Decided,
     pub runs: Decided,
+    pub every_tick: EveryTick,
     pub differ: u32,
     state: u64,
 }
@@ -64,28 +69,41 @@ fn is_found(t: Table, found: Found) -> bool {
     )
 }
 
-// One more if the row is heard and its window goes on from R-1 to tick 0.
-fn with_row(n: u32, run: bool, start: u16, end: u16, label: u8) -> u32 {
-    if run {
-        return n;
-    }
+// How many of the heard rows of a round have a window that goes on from R-1 to tick 0, and how many send all day.
+struct Counts {
+    crossing: u32,
+    all_day: u32,
+}
+
+// Whether a window of a round goes on from R-1 to tick 0.
+fn crosses(start: u16, end: u16) -> bool {
     if end == 0 {
-        return n;
+        return false;
     }
+    end <= start
+}
+
+// One row more, if it is heard.
+fn with_row(n: Counts, start: u16, end: u16, label: u8) -> Counts {
     if label == 0 {
         return n;
     }
-    more(n, end < start)
+    Counts {
+        crossing: more(n.crossing, crosses(start, end)),
+        all_day: more(n.all_day, start == end),
+    }
 }
 
-// How many rows are heard over the end of the day.
-fn crossing(t: Table, labels: &[u8; 8]) -> u32 {
+// In a run no window ends at its start or before it.
+fn heard(t: Table, labels: &[u8; 8]) -> Counts {
     let starts = t.starts;
     let ends = t.ends;
-    let run = t.run;
-    let mut n = 0;
+    let mut n = Counts {
+        crossing: 0,
+        all_day: 0,
+    };
     for i in 0..8 {
-        n = with_row(n, run, starts[i], ends[i], labels[i]);
+        n = with_row(n, starts[i], ends[i], labels[i]);
     }
     n
 }
@@ -98,16 +116,21 @@ fn with_table(tally: Tally) -> Tally {
     let ticks = t.ticks;
     let right = found(t, &marks, hours);
     let labels = right.labels;
-    let all_day = found(t, &marks, [0, ticks, 0, ticks]);
+    let open = found(t, &marks, [0, ticks, 0, ticks]);
     let rounds = tally.rounds;
     let runs = tally.runs;
+    let every_tick = tally.every_tick;
+    let n = heard(t, &labels);
     Tally {
         none: more(tally.none, right.answer == 0),
-        hours: more(tally.hours, changed(right, all_day)),
-        crossing: more(tally.crossing, 1 < crossing(t, &labels)),
+        hours: more(tally.hours, changed(right, open)),
+        crossing: more(tally.crossing, 1 < n.crossing),
+        all_day: more(tally.all_day, 0 < n.all_day),
+        two_all_day: more(tally.two_all_day, 1 < n.all_day),
         tied: more(tally.tied, 1 < right.best),
         rounds: decided::of_kind(rounds, t, false, right),
         runs: decided::of_kind(runs, t, true, right),
+        every_tick: all_day::with_table(every_tick, t, right),
         differ: more(tally.differ, !is_found(t, right)),
         state: t.state,
     }
@@ -119,9 +142,12 @@ pub fn tables() -> Tally {
         none: 0,
         hours: 0,
         crossing: 0,
+        all_day: 0,
+        two_all_day: 0,
         tied: 0,
         rounds: decided::nothing(),
         runs: decided::nothing(),
+        every_tick: all_day::nothing(),
         differ: 0,
         state: 149,
     };

@@ -36,7 +36,18 @@ fn draw_starts(list: &mut [u16; 8], ticks: u16, state: u64) -> u64 {
     s
 }
 
-// The end of a window of so many ticks: in a run cut off at R, in a round going on from R-1 to 0.
+// How many ticks a window covers: up to `longest`, and in a round, for one row in eight, all R. The chance of that lies in the lower half of the state, which `below` leaves out.
+fn length(run: bool, ticks: u16, longest: u16, state: u64) -> u16 {
+    if run {
+        return from(state, 1, longest);
+    }
+    if state % 8 == 0 {
+        return ticks;
+    }
+    from(state, 1, longest)
+}
+
+// The end of a window of so many ticks: in a run cut off at R, in a round going on from R-1 to 0. After R ticks it is the start.
 fn end_of(run: bool, ticks: u16, start: u16, length: u16) -> u16 {
     let end = std::num::wrapping_add_u16(start, length);
     if end < ticks {
@@ -59,7 +70,7 @@ fn draw_ends(
     let mut s = state;
     for i in 0..8 {
         s = random::next(s);
-        list[i] = end_of(run, ticks, starts[i], from(s, 1, longest));
+        list[i] = end_of(run, ticks, starts[i], length(run, ticks, longest, s));
     }
     s
 }

@@ -1,9 +1,12 @@
 // Compares the planner's answers for small random tables with those of the brute force, and prints what there was among the tables.
+mod all_day;
 mod compared;
 mod decided;
 mod drawn;
 mod searched;
 
+use all_day::EveryTick;
+use compared::Tally;
 use decided::Decided;
 use trial_report::print;
 use trial_report::print_two;
@@ -27,18 +30,39 @@ fn print_decided(rounds: Decided, runs: Decided) {
     print_mark(b"mark 5, not 4", rounds.five_as_four, runs.five_as_four);
 }
 
+// The rounds whose answer it decided that a window that sends all day covers every tick: where it covers fewer it is another answer.
+fn print_every_tick(a: EveryTick) {
+    print(b"  decided by every tick, not none: rounds ", a.not_none);
+    print(
+        b"  decided by every tick, not the start alone: rounds ",
+        a.not_start,
+    );
+    print(
+        b"  decided by every tick, not all but the start: rounds ",
+        a.not_others,
+    );
+}
+
+fn print_heard(tally: Tally) {
+    print(
+        b"  two windows over the end of the day heard ",
+        tally.crossing,
+    );
+    print(b"  a row that sends all day heard ", tally.all_day);
+    print(b"  two rows that send all day heard ", tally.two_all_day);
+}
+
 fn main() {
     let tally = compared::tables();
     print(b"random tables: ", compared::TABLES);
     print(b"  no plan ", tally.none);
     print(b"  the hours changed the answer ", tally.hours);
-    print(
-        b"  two windows over the end of the day heard ",
-        tally.crossing,
-    );
+    print_heard(tally);
     print(b"  several best plans ", tally.tied);
     let rounds = tally.rounds;
     let runs = tally.runs;
     print_decided(rounds, runs);
+    let every_tick = tally.every_tick;
+    print_every_tick(every_tick);
     print(b"  differ ", tally.differ);
 }

@@ -2,7 +2,7 @@
 use crate::drawn::Table;
 use brute_force::plans::Found;
 
-fn brute_kind_of(run: bool) -> brute_force::windows::Kind {
+pub fn brute_kind_of(run: bool) -> brute_force::windows::Kind {
     if run {
         brute_force::windows::Kind::Run
     } else {

@@ -141,11 +141,9 @@ fn rows(g: Groups) -> Groups {
     one(groups, 20, 0x02, true)
 }
 
-// In a round: 10–10 and 20–20; 90–100, 90–99 and 90–0; 100–10 and 99–10; 90–65290; 65370–10.
+// In a round: 90–100, 90–99 and 90–0; 100–10 and 99–10; 90–65290; 65370–10.
 fn round_windows(g: Groups) -> Groups {
-    let mut groups = one(g, 10, 0x0A, false);
-    groups = one(groups, 24, 0x14, false);
-    groups = one(groups, 16, 0x64, false);
+    let mut groups = one(g, 16, 0x64, false);
     groups = one(groups, 16, 0x63, true);
     groups = one(groups, 16, 0x00, true);
     groups = one(groups, 14, 0x64, false);
@@ -168,7 +166,30 @@ fn run_windows(g: Groups) -> Groups {
     run_one(groups, 10, 0x09, false)
 }
 
+// Start equal to end (request 3). In a round receiver 2 has row 1 from 20 to 20, 0 to 0, 99 to 99, and 100 to 100, which is not below R.
+fn all_day_round(g: Groups) -> Groups {
+    let mut groups = one(g, 24, 0x14, true);
+    groups = two(groups, 22, 0x00, 24, 0x00, true);
+    groups = two(groups, 22, 0x63, 24, 0x63, true);
+    two(groups, 22, 0x64, 24, 0x64, false)
+}
+
+// The same in a run, which refuses it.
+fn all_day_run(g: Groups) -> Groups {
+    let mut groups = run_one(g, 24, 0x14, false);
+    groups = run_two(groups, 22, 0x00, 24, 0x00, false);
+    groups = run_two(groups, 22, 0x63, 24, 0x63, false);
+    run_two(groups, 22, 0x64, 24, 0x64, false)
+}
+
 // ---- two windows of a receiver
+
+// "Such a window overlaps every other": 10–10 beside 90–10, 90–90 beside 10–30, and 10–10 beside 90–90.
+fn all_day_overlaps(g: Groups) -> Groups {
+    let mut groups = one(g, 10, 0x0A, false);
+    groups = one(groups, 16, 0x5A, false);
+    two(groups, 10, 0x0A, 16, 0x5A, false)
+}
 
 // Row 0 is 10–30, and row 3 in a round 29–10, 30–10, 90–11, 90–10, 10–20, 20–25, 31–30; or row 0 is 10–90, 10–91, 10–5.
 fn round_overlaps(g: Groups) -> Groups {
@@ -223,7 +244,7 @@ fn ticks(g: Groups, high: u8, low: u8, good: bool) -> Groups {
     judged(judged(g, &round, good), &run, good)
 }
 
-// R 0, 1, 2, 43,200, 43,201 and 65,535; 0–1 and 1–0 in a round of 2; the last tick of the longest day, which ends at 0 and not at R.
+// R 0, 1, 2, 43,200, 43,201 and 65,535; 0–1 and 1–0 in a round of 2; from the last tick of the longest day to 0, to R, to that tick; from R to R.
 fn all_ticks(g: Groups) -> Groups {
     let mut groups = ticks(g, 0x00, 0x00, false);
     groups = ticks(groups, 0x00, 0x01, false);
@@ -241,9 +262,19 @@ fn all_ticks(g: Groups) -> Groups {
         b"\x10\xa8\xc0\x20\x01\x30\x00\xa8\xbf\x00\x00\x20\x02\x7f",
         true,
     );
-    judged(
+    groups = judged(
         groups,
         b"\x10\xa8\xc0\x20\x01\x30\x00\xa8\xbf\xa8\xc0\x20\x02\x7f",
+        false,
+    );
+    groups = judged(
+        groups,
+        b"\x10\xa8\xc0\x20\x01\x30\x00\xa8\xbf\xa8\xbf\x20\x02\x7f",
+        true,
+    );
+    judged(
+        groups,
+        b"\x10\xa8\xc0\x20\x01\x30\x00\xa8\xc0\xa8\xc0\x20\x02\x7f",
         false,
     )
 }
@@ -276,6 +307,7 @@ fn from_ticks_broken(g: Groups, tape: [u8; 26]) -> Groups {
 fn first_ticks(g: Groups) -> Groups {
     let mut groups = from_ticks(g, session());
     groups = from_ticks(groups, put(put(session(), 0, 0x11), 16, 0x64));
+    groups = from_ticks(groups, put(session(), 24, 0x14));
     groups = from_ticks_broken(groups, put(session(), 25, 0x7E));
     refused(groups, b"", 65535, 12)
 }
@@ -290,6 +322,9 @@ pub fn all() -> Groups {
     g = rows(g);
     g = round_windows(g);
     g = run_windows(g);
+    g = all_day_round(g);
+    g = all_day_run(g);
+    g = all_day_overlaps(g);
     g = round_overlaps(g);
     g = run_overlaps(g);
     g = orders(g);

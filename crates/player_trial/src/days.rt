@@ -1,5 +1,5 @@
 // The ticks at which the receivers listen, walked one by one and marked in a list with a place for each receiver and tick of the longest day.
-// It is written from paper 01 alone and uses no product code.
+// It is written from papers 01 and 02 alone and uses no product code.
 use player_calls::listening;
 
 // A run or a round of so many ticks.
@@ -43,43 +43,43 @@ pub fn put(days: &mut [u32; 86400], receiver: u8, tick: u16, told: u32) {
     }
 }
 
-// Makes both receivers idle at the first so many ticks.
-pub fn clear(days: &mut [u32; 86400], ticks: u16) {
+// Makes a receiver do the same at each of the first so many ticks.
+pub fn put_all(days: &mut [u32; 86400], receiver: u8, ticks: u16, told: u32) {
     let mut tick: u16 = 0;
     while tick < ticks {
-        put(days, 1, tick, 0);
-        put(days, 2, tick, 0);
+        put(days, receiver, tick, told);
         tick += 1;
     }
 }
 
-// Whether a receiver is idle at each tick of a window: "start, start+1 and so on, going from R-1 to 0, up to the tick before end".
+// Whether a receiver is idle at each tick of a window: "start, start+1 and so on, going from R-1 to 0, up to the tick before end"; "start equal to end
+// now covers every tick" (request 3). So the walk ends where it comes to end after at least one step.
 fn is_free(days: &[u32; 86400], receiver: u8, time: Time, start: u16, end: u16) -> bool {
     let mut tick = start;
     let mut left = time.ticks;
     while 0 < left {
-        if tick == end {
-            return true;
-        }
         if at_tick(days, receiver, tick) != 0 {
             return false;
         }
         tick = after(time, tick);
+        if tick == end {
+            return true;
+        }
         left -= 1;
     }
     true
 }
 
-// Marks each tick of a window.
+// Marks each tick of a window, by the same walk.
 fn mark(days: &mut [u32; 86400], receiver: u8, time: Time, start: u16, end: u16, told: u32) {
     let mut tick = start;
     let mut left = time.ticks;
     while 0 < left {
+        put(days, receiver, tick, told);
+        tick = after(time, tick);
         if tick == end {
             return;
         }
-        put(days, receiver, tick, told);
-        tick = after(time, tick);
         left -= 1;
     }
 }

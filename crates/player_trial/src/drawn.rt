@@ -24,7 +24,18 @@ pub fn from(state: u64, low: u16, count: u16) -> u16 {
     std::num::wrapping_add_u16(low, below(state, count))
 }
 
-// The end of a window of so many ticks: in a run cut off at R, in a round going on from R-1 to 0.
+// How many ticks a window covers: up to `longest`, and in a round, for one row in eight, all R. The chance of that lies in the lower half of the state, which `below` leaves out.
+fn length(time: Time, longest: u16, state: u64) -> u16 {
+    if time.run {
+        return from(state, 1, longest);
+    }
+    if state % 8 == 0 {
+        return time.ticks;
+    }
+    from(state, 1, longest)
+}
+
+// The end of a window of so many ticks: in a run cut off at R, in a round going on from R-1 to 0. After R ticks it is the start.
 fn end_of(time: Time, start: u16, length: u16) -> u16 {
     let end = std::num::wrapping_add_u16(start, length);
     if end < time.ticks {
@@ -36,7 +47,7 @@ fn end_of(time: Time, start: u16, length: u16) -> u16 {
     std::num::wrapping_sub_u16(end, time.ticks)
 }
 
-// Draws windows of up to so many ticks; the result is the sequence's state after them.
+// Draws windows of up to so many ticks, and windows that send all day; the result is the sequence's state after them.
 pub fn draw_windows(
     starts: &mut [u16; 64],
     ends: &mut [u16; 64],
@@ -51,7 +62,7 @@ pub fn draw_windows(
         let start = below(s, time.ticks);
         s = random::next(s);
         starts[i] = start;
-        ends[i] = end_of(time, start, from(s, 1, longest));
+        ends[i] = end_of(time, start, length(time, longest, s));
         i += 1;
     }
     s

@@ -139,7 +139,7 @@ fn listen_at(tape: &[u8], counts: Counts, i: usize) -> Listen {
     listen_from(tape, 2, place(7, i))
 }
 
-// "In a round, start and end are both below R and differ. In a run, start is below end and end is at most R."
+// "In a round, start and end are both below R", and may be equal (request 3). "In a run, start is below end and end is at most R."
 fn is_window(time: Time, start: u16, end: u16) -> bool {
     if time.run {
         if end <= start {
@@ -150,10 +150,7 @@ fn is_window(time: Time, start: u16, end: u16) -> bool {
     if time.ticks <= start {
         return false;
     }
-    if time.ticks <= end {
-        return false;
-    }
-    start != end
+    end < time.ticks
 }
 
 // Whether two LISTENs, in this order on the tape, are of different rows, and on one receiver by rising start.
@@ -217,6 +214,7 @@ pub fn is_made(tape: &[u8], days: &mut [u32; 86400]) -> bool {
     if !has_form(tape, counts) {
         return false;
     }
-    days::clear(days, time.ticks);
+    days::put_all(days, 1, time.ticks, 0);
+    days::put_all(days, 2, time.ticks, 0);
     take_all(tape, counts, time, days)
 }

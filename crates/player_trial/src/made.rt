@@ -42,7 +42,7 @@ fn write(
 
 // ---- tables
 
-// What is drawn: a table with windows of up to so many ticks, of which the first `rows` rows may be heard.
+// What is drawn: a table with windows of up to so many ticks and windows that send all day, of which the first `rows` rows may be heard.
 // The tape is played from each first tick, or from the first, the last and one between.
 struct Plan {
     time: Time,

@@ -1,5 +1,6 @@
 // Plays plan tapes and compares each step with what the tapes' windows say tick by tick; starts the player on tapes that no writer makes.
 // It prints for each group how many cases there were and how many differ, and how many steps met what is easily got wrong.
+mod all_day;
 mod broken;
 mod changed;
 mod days;
@@ -28,6 +29,8 @@ fn print_met(tally: Tally) {
         tally.over,
     );
     print(b"  a window ends where the next begins ", tally.touching);
+    print(b"  in a window that sends all day ", tally.all_day);
+    print(b"  at the end of that window ", tally.own_end);
     print(b"  finished ", tally.finished);
 }
 
@@ -41,6 +44,11 @@ fn print_tally(tally: Tally) {
 fn print_played() {
     print(b"the session's tape, two days from each first tick: ", 1);
     print_tally(session::all());
+    print(
+        b"tapes with windows that send all day, for two days: ",
+        all_day::TAPES,
+    );
+    print_tally(all_day::all());
     print(b"tables of 2 to 12 ticks, from each first tick: ", SMALL);
     print_tally(made::tables(true, SMALL));
 }

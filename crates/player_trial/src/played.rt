@@ -18,6 +18,8 @@ pub struct Tally {
     pub both: u32,
     pub over: u32,
     pub touching: u32,
+    pub all_day: u32,
+    pub own_end: u32,
     pub finished: u32,
 }
 
@@ -30,23 +32,32 @@ pub fn no_steps() -> Tally {
         both: 0,
         over: 0,
         touching: 0,
+        all_day: 0,
+        own_end: 0,
         finished: 0,
     }
 }
 
-// What a receiver must do at a tick and at the one after it.
+// What a receiver must do at a tick, at the one after it, and at the one until which it listens.
 struct Told {
     now: u32,
     next: u32,
+    end: u32,
 }
 
 fn told_at(days: &[u32; 86400], receiver: u8, time: Time, tick: u16) -> Told {
     if time.ticks <= tick {
-        return Told { now: 0, next: 0 };
+        return Told {
+            now: 0,
+            next: 0,
+            end: 0,
+        };
     }
+    let now = at_tick(days, receiver, tick);
     Told {
-        now: at_tick(days, receiver, tick),
+        now,
         next: at_tick(days, receiver, after(time, tick)),
+        end: at_tick(days, receiver, until_of(now)),
     }
 }
 
@@ -72,6 +83,22 @@ fn is_touching(t: Told) -> bool {
     t.now != t.next
 }
 
+// It listens to a window that sends all day: it does so at that window's end too.
+fn is_all_day(t: Told) -> bool {
+    if t.now == 0 {
+        return false;
+    }
+    t.now == t.end
+}
+
+// This tick is the end of the window to which it listens.
+fn is_own_end(t: Told, tick: u16) -> bool {
+    if t.now == 0 {
+        return false;
+    }
+    until_of(t.now) == tick
+}
+
 fn either(a: bool, b: bool) -> bool {
     if a { true } else { b }
 }
@@ -94,6 +121,7 @@ fn with_step(tally: Tally, time: Time, tick: u16, stepped: Stepped, t1: Told, t2
     let right = is_step(stepped, finished, t1.now, t2.now, moved(time, tick));
     let idle = both(!finished, either(t1.now == 0, t2.now == 0));
     let over = either(is_over(t1, tick), is_over(t2, tick));
+    let own_end = either(is_own_end(t1, tick), is_own_end(t2, tick));
     Tally {
         starts: tally.starts,
         steps: more(tally.steps, true),
@@ -102,6 +130,8 @@ fn with_step(tally: Tally, time: Time, tick: u16, stepped: Stepped, t1: Told, t2
         both: more(tally.both, both(t1.now != 0, t2.now != 0)),
         over: more(tally.over, over),
         touching: more(tally.touching, either(is_touching(t1), is_touching(t2))),
+        all_day: more(tally.all_day, either(is_all_day(t1), is_all_day(t2))),
+        own_end: more(tally.own_end, own_end),
         finished: more(tally.finished, finished),
     }
 }

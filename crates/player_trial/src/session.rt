@@ -56,7 +56,7 @@ fn told2(tick: u16) -> u32 {
     }
 }
 
-fn fill(days: &mut [u32; 86400]) {
+pub fn fill(days: &mut [u32; 86400]) {
     let mut tick: u16 = 0;
     while tick < 100 {
         put(days, 1, tick, told1(tick));

@@ -1,4 +1,4 @@
-// Replies to fleet tapes: paper 01's session, rows for one receiver only, refusals, and tapes of up to 400 bytes and of more.
+// Replies to fleet tapes: paper 01's session, rows for one receiver only, rows that send all day, refusals, and tapes of up to 400 bytes and of more.
 use trial_calls::BEFORE;
 use trial_calls::LENT_BYTES;
 use trial_calls::first_bytes;
@@ -161,6 +161,54 @@ fn one_receiver(group: Group) -> Group {
     with_case(g, hours_tape(0x45, 0, 20, 0, b"heard 1\n0 2\n"))
 }
 
+// A round of 100 ticks with the rows s–s, 20 to `end1` and 90 to `end2`, with these commands.
+fn all_day_tape(commands: [u8; 3], s: u8, end1: u8, end2: u8, number: u8, text: &[u8]) -> bool {
+    let tape = [
+        0x10,
+        0x00,
+        0x64,
+        commands[0],
+        0x00,
+        s,
+        0x00,
+        s,
+        commands[1],
+        0x00,
+        0x14,
+        0x00,
+        end1,
+        commands[2],
+        0x00,
+        0x5A,
+        0x00,
+        end2,
+        0x7F,
+    ];
+    is_replied(&tape, number, text)
+}
+
+// Rows that send all day: three that may and three that must be heard; one that must be, and one on receiver 2 only, beside 20–40 and 90–10; one at R.
+// In a run such a row is refused (`planned`).
+fn all_day(group: Group) -> Group {
+    let three = b"heard 2\n0 1\n1 2\n2 0\n";
+    let must = b"heard 3\n0 1\n1 2\n2 2\n";
+    let second = b"heard 3\n0 2\n1 1\n2 1\n";
+    let mut g = with_case(
+        group,
+        all_day_tape([0x40, 0x40, 0x40], 10, 20, 90, 0, three),
+    );
+    g = with_case(
+        g,
+        all_day_tape([0x41, 0x41, 0x41], 10, 20, 90, 8, b"refused 8\n"),
+    );
+    g = with_case(g, all_day_tape([0x41, 0x40, 0x40], 99, 40, 10, 0, must));
+    g = with_case(g, all_day_tape([0x44, 0x40, 0x42], 0, 40, 10, 0, second));
+    with_case(
+        g,
+        all_day_tape([0x40, 0x40, 0x40], 100, 40, 10, 6, b"refused 6\n"),
+    )
+}
+
 // A tape that is not of the form.
 fn broken(group: Group, tape: &[u8]) -> Group {
     with_case(group, is_replied(tape, 11, b"refused 11\n"))
@@ -244,6 +292,7 @@ pub fn all() -> Group {
     let mut g = no_cases();
     g = planned(g);
     g = one_receiver(g);
+    g = all_day(g);
     g = not_of_the_form(g);
     g = long_rounds(g);
     long_runs(g)

@@ -14,14 +14,14 @@ abbrev μ-loop : tie.MeasureT-loop
 loop-holds : tie.Need-loop-holds Inv-loop μ-loop
 loop-holds c = tt
 
-returns : tie.Need-returns Inv-loop μ-loop
-returns c = tt
-
 one-requires : tie.Need-one-requires Inv-loop μ-loop
 one-requires c κs = tt
 
 after-requires : tie.Need-after-requires Inv-loop μ-loop
 after-requires c κs = tt
+
+returns : tie.Need-returns Inv-loop μ-loop
+returns c = tt
 
 add-step : tie.Need-add-step Inv-loop μ-loop
 add-step c = omega arith
@@ -42,9 +42,9 @@ round-set-spec =
     Inv-loop
     μ-loop
     loop-holds
-    returns
     one-requires
     after-requires
+    returns
     add-step
     loop-less
     loop-again

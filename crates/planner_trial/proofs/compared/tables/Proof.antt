@@ -16,6 +16,9 @@ nothing-requires c κs = tt
 nothing-requires-2 : tie.Need-nothing-requires-2 Inv-loop μ-loop
 nothing-requires-2 c κs = tt
 
+nothing-requires-3 : tie.Need-nothing-requires-3 Inv-loop μ-loop
+nothing-requires-3 c κs = tt
+
 loop-holds : tie.Need-loop-holds Inv-loop μ-loop
 loop-holds c = tt
 
@@ -37,4 +40,4 @@ returns c = tt
 pub tables-spec : {M : Type 1} → statement M
 tables-spec =
     tie.close
-    (tie.spec Inv-loop μ-loop nothing-requires nothing-requires-2 loop-holds with-table-requires add-turn loop-less loop-again returns)
+    (tie.spec Inv-loop μ-loop nothing-requires nothing-requires-2 nothing-requires-3 loop-holds with-table-requires add-turn loop-less loop-again returns)

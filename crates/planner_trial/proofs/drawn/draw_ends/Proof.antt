@@ -23,8 +23,8 @@ mul-end-of c = omega arith
 element-copy-out-end-of : tie.Need-element-copy-out-end-of Inv-loop μ-loop
 element-copy-out-end-of c = search needs
 
-from-requires : tie.Need-from-requires Inv-loop μ-loop
-from-requires c κs = tt
+length-requires : tie.Need-length-requires Inv-loop μ-loop
+length-requires c κs = tt
 
 end-of-requires : tie.Need-end-of-requires Inv-loop μ-loop
 end-of-requires c κs = tt
@@ -57,7 +57,7 @@ draw-ends-spec =
     next-requires
     mul-end-of
     element-copy-out-end-of
-    from-requires
+    length-requires
     end-of-requires
     mul-list
     element-write-list

@@ -12,17 +12,17 @@ abbrev μ-loop : tie.MeasureT-loop
 loop-holds : tie.Need-loop-holds Inv-loop μ-loop
 loop-holds c = search needs
 
-returns : tie.Need-returns Inv-loop μ-loop
-returns c = search needs
-
 at-tick-requires : tie.Need-at-tick-requires Inv-loop μ-loop
 at-tick-requires c κs = search needs
 
-returns-2 : tie.Need-returns-2 Inv-loop μ-loop
-returns-2 c = search needs
+returns : tie.Need-returns Inv-loop μ-loop
+returns c = search needs
 
 after-requires : tie.Need-after-requires Inv-loop μ-loop
 after-requires c κs = search needs
+
+returns-2 : tie.Need-returns-2 Inv-loop μ-loop
+returns-2 c = search needs
 
 sub-left : tie.Need-sub-left Inv-loop μ-loop
 sub-left c = search needs
@@ -43,10 +43,10 @@ is-free-spec =
     Inv-loop
     μ-loop
     loop-holds
-    returns
     at-tick-requires
-    returns-2
+    returns
     after-requires
+    returns-2
     sub-left
     loop-less
     loop-again

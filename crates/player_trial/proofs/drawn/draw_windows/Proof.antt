@@ -28,8 +28,8 @@ mul-starts c = search needs
 element-write-starts : tie.Need-element-write-starts Inv-loop μ-loop
 element-write-starts c = search needs
 
-from-requires : tie.Need-from-requires Inv-loop μ-loop
-from-requires c κs = search needs
+length-requires : tie.Need-length-requires Inv-loop μ-loop
+length-requires c κs = search needs
 
 end-of-requires : tie.Need-end-of-requires Inv-loop μ-loop
 end-of-requires c κs = search needs
@@ -64,7 +64,7 @@ draw-windows-spec =
     next-requires-2
     mul-starts
     element-write-starts
-    from-requires
+    length-requires
     end-of-requires
     mul-ends
     element-write-ends

@@ -1,15 +1,15 @@
--- `planner_trial::compared::crossing` is safe and ends: fewer rows are left at each turn.
+-- `planner_trial::compared::heard` is safe and ends: fewer rows are left at each turn.
 use borrow.Author.Needs.{needs}
 use native.Mathlib.Omega.{arith}
 use Prim.Native.Nat.{_-_}
-use Rattle.planner_trial.proofs.compared.crossing.Statement.{statement}
-use Rattle.planner_trial.proofs.compared.crossing.Tie as tie
+use Rattle.planner_trial.proofs.compared.heard.Statement.{statement}
+use Rattle.planner_trial.proofs.compared.heard.Tie as tie
 
 abbrev Inv-loop : tie.InvT-loop
-Inv-loop labels starts ends run n₀ i₀ n i = Unit {0}
+Inv-loop labels starts ends n₀ i₀ n i = Unit {0}
 
 abbrev μ-loop : tie.MeasureT-loop
-μ-loop labels starts ends run n₀ i₀ n i = 8 - i
+μ-loop labels starts ends n₀ i₀ n i = 8 - i
 
 loop-holds : tie.Need-loop-holds Inv-loop μ-loop
 loop-holds c = tt
@@ -44,8 +44,8 @@ loop-again c = tt
 returns : tie.Need-returns Inv-loop μ-loop
 returns c = tt
 
-pub crossing-spec : {M : Type 1} → statement M
-crossing-spec =
+pub heard-spec : {M : Type 1} → statement M
+heard-spec =
     tie.close
     (tie.spec
     Inv-loop

@@ -1,23 +1,20 @@
--- `player_trial::days::clear` is safe and ends, clearing tick by tick.
+-- `player_trial::days::put_all` is safe and ends, going on tick by tick.
 use Prim.Native.Nat.{_-_}
 use borrow.Author.Needs.{needs}
-use Rattle.player_trial.proofs.days.clear.Statement.{statement}
-use Rattle.player_trial.proofs.days.clear.Tie as tie
+use Rattle.player_trial.proofs.days.put_all.Statement.{statement}
+use Rattle.player_trial.proofs.days.put_all.Tie as tie
 
 abbrev Inv-loop : tie.InvT-loop
-Inv-loop days₀ ticks tick₀ days tick = Unit {0}
+Inv-loop days₀ receiver ticks told tick₀ days tick = Unit {0}
 
 abbrev μ-loop : tie.MeasureT-loop
-μ-loop days₀ ticks tick₀ days tick = ticks - tick
+μ-loop days₀ receiver ticks told tick₀ days tick = ticks - tick
 
 loop-holds : tie.Need-loop-holds Inv-loop μ-loop
 loop-holds c = search needs
 
 put-requires : tie.Need-put-requires Inv-loop μ-loop
 put-requires c κs = search needs
-
-put-requires-2 : tie.Need-put-requires-2 Inv-loop μ-loop
-put-requires-2 c κs = search needs
 
 add-tick : tie.Need-add-tick Inv-loop μ-loop
 add-tick c = search needs
@@ -31,15 +28,14 @@ loop-again c = search needs
 returns : tie.Need-returns Inv-loop μ-loop
 returns c = search needs
 
-pub clear-spec : {M : Type 1} → statement M
-clear-spec =
+pub put-all-spec : {M : Type 1} → statement M
+put-all-spec =
     tie.close
     (tie.spec
     Inv-loop
     μ-loop
     loop-holds
     put-requires
-    put-requires-2
     add-tick
     loop-less
     loop-again
