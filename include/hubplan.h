@@ -26,7 +26,7 @@ enum hub_refusal {
     HUB_SPACE = 3,      /* working space shorter than HUB_SPACE_BYTES */
     HUB_TICKS = 4,      /* ticks outside 2 to 43,200 */
     HUB_HOURS = 5,      /* open hours wrong: p above q, or q above ticks (run only) */
-    HUB_WINDOW = 6,     /* a window breaks the rules: in a round start and end below ticks and different, in a run start below end and end at most ticks */
+    HUB_WINDOW = 6,     /* a window breaks the rules: in a round start and end below ticks, equal or not; in a run start below end and end at most ticks */
     HUB_MARK = 7,       /* a mark above 5 */
     HUB_NO_PLAN = 8,    /* no plan exists */
     HUB_NOT_PLAN = 9,   /* labels offered to the writer are not a plan */
@@ -63,6 +63,9 @@ struct hub_answer {
 /* Plans a round of `ticks` ticks. A table is starts, ends and marks, a row at each place. What a mark says (enum hub_mark) is part of what a plan is: 0 may and 1 must be
  * heard, by either receiver; 2 may and 3 must be heard, by receiver 1 only; 4 may and 5 must be heard, by receiver 2 only.
  *
+ * A window covers start, start + 1 and so on, going from ticks - 1 to 0, up to the tick before end. Start equal to end covers every tick: a beacon that sends all day, whose
+ * window overlaps every other. Two windows overlap exactly if some tick lies in both, and no two rows of one receiver overlap in a plan.
+ *
  * Accepted: labels are the plan with the most heard rows (label 1 or 2, the receiver; 0 is not heard), and of those the one that comes first in paper 01's order; no
  * other list of labels that is a plan hears more. The count is the number of labels that are 1 or 2. The first HUB_SPACE_BYTES of the working space are cleared to
  * zero, bytes beyond are untouched. What labels and working space held before makes no difference.
@@ -76,7 +79,8 @@ struct hub_answer hub_plan_round(uint16_t ticks,
                                  uint8_t *space, size_t space_length);
 
 /* Plans a run of `ticks` ticks in which receiver 1 is open from p1 to q1 and receiver 2 from p2 to q2: a receiver can take a window only if p <= start and end <= q.
- * The promise is that of hub_plan_round, with the hours as part of what a plan is. Order: 1, 2, 3, 4, 5, rows for 6 and 7, then 8. */
+ * A window covers start to end - 1; start equal to end is refused. The promise is that of hub_plan_round, with the hours as part of what a plan is. Order: 1, 2, 3, 4, 5,
+ * rows for 6 and 7, then 8. */
 struct hub_answer hub_plan_run(uint16_t ticks, uint16_t p1, uint16_t q1, uint16_t p2, uint16_t q2,
                                const uint16_t *starts, size_t starts_length,
                                const uint16_t *ends, size_t ends_length,
@@ -137,7 +141,8 @@ struct hub_player {
     uint16_t tick;
 };
 
-/* What a receiver does at a tick: it listens to a row until a tick, which is the window's end as taped, or it is idle. Row and until are 0 where it is idle. */
+/* What a receiver does at a tick: it listens to a row until a tick, which is the window's end as taped, or it is idle. Row and until are 0 where it is idle. Of a window that
+ * covers every tick the end is told at every tick, at the end itself too. */
 struct hub_receiver {
     bool listening;
     uint8_t row;

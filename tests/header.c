@@ -1,5 +1,5 @@
-/* Tests include/hubplan.h by itself: every function is called as the header declares it, on paper 01's session, on runs with unequal hours, with each mark, at each limit
- * and for each refusal, and every constant, field and parameter is compared with the papers'. The numbers here are the papers', since the header's constants are what is tested.
+/* Tests include/hubplan.h by itself: every function is called as the header declares it, on paper 01's session, on runs with unequal hours, with each mark, with windows that
+ * cover every tick, at each limit and for each refusal, and every constant, field and parameter is compared with the papers'. The numbers here are the papers', since the header's constants are what is tested.
  *
  *   gcc -std=c99 -Wall -Wextra -Wpedantic -Werror -Iinclude tests/header.c target/staticlib/libhub_c.a -o target/header && target/header
  */
@@ -594,6 +594,20 @@ static const char *reply_with(const char *labels, char text[REPLY])
     return text;
 }
 
+/* The planner and the reply give these labels, and the writer takes them; no labels for refusal 8. */
+static void planned_or_8(const char *what, struct lent *t, const char *labels)
+{
+    char text[REPLY];
+    if (!labels) {
+        plan_refused(what, t, 8);
+        replied_to(what, t, "refused 8\n", true);
+        return;
+    }
+    planned(what, t, labels);
+    check(what, "the writer takes the plan", write_plan(t).refusal == 0);
+    replied_to(what, t, reply_with(labels, text), true);
+}
+
 /* Worked examples: windows, marks and labels; no labels for refusal 8. */
 static void marks_planned(bool run)
 {
@@ -604,18 +618,10 @@ static void marks_planned(bool run)
         {equal, "55", NULL},   {equal, "53", "21"},   {one, "0", "1"},       {one, "1", "1"},       {one, "2", "1"},       {one, "3", "1"},
         {one, "4", "2"},       {one, "5", "2"}};
     for (size_t e = 0; e < sizeof examples / sizeof *examples; e++) {
-        char what[60], text[REPLY];
-        const char *labels = examples[e].labels;
+        char what[60];
         struct lent t = marked(run, examples[e].windows, examples[e].marks);
         snprintf(what, sizeof what, "%s with marks %s", run ? "a run" : "a round", examples[e].marks);
-        if (labels) {
-            planned(what, &t, labels);
-            check(what, "the writer takes the plan", write_plan(&t).refusal == 0);
-            replied_to(what, &t, reply_with(labels, text), true);
-        } else {
-            plan_refused(what, &t, 8);
-            replied_to(what, &t, "refused 8\n", true);
-        }
+        planned_or_8(what, &t, examples[e].labels);
     }
 }
 
@@ -700,13 +706,116 @@ static void marks(void)
     end_group("marks");
 }
 
+/* Worked examples of windows that cover every tick: R, windows, marks and labels; no labels for refusal 8. */
+static void all_day_planned(void)
+{
+    static uint16_t three[3][2] = {{3, 3}, {7, 7}, {0, 0}}, same[3][2] = {{9, 9}, {9, 9}, {9, 9}}, one[3][2] = {{3, 3}, {0, 2}, {5, 8}},
+                    late[4][2] = {{0, 4}, {3, 3}, {2, 6}, {5, 9}}, two[3][2] = {{3, 3}, {8, 8}, {5, 6}}, two_of_2[3][2] = {{0, 0}, {1, 1}, {0, 1}},
+                    one_of_2[3][2] = {{1, 1}, {0, 1}, {1, 0}};
+    static const struct { uint16_t ticks, (*windows)[2]; const char *marks, *labels; } examples[] = {
+        {10, three, "000", "120"}, {10, same, "000", "120"},   {10, three, "001", "102"},  {10, three, "111", NULL},    {10, one, "100", "122"},
+        {10, one, "000", "122"},   {10, one, "503", "211"},    {10, one, "303", NULL},     {10, late, "0000", "1201"},  {10, late, "1010", "1021"},
+        {10, two, "110", "120"},   {10, two, "111", NULL},     {10, two, "353", NULL},     {43200, three, "000", "120"}, {43200, two, "111", NULL},
+        {2, two_of_2, "000", "120"}, {2, two_of_2, "111", NULL}, {2, one_of_2, "000", "122"}, {2, one_of_2, "111", "122"}};
+    for (size_t e = 0; e < sizeof examples / sizeof *examples; e++) {
+        char what[60];
+        struct lent t = marked(false, examples[e].windows, examples[e].marks);
+        t.ticks = examples[e].ticks;
+        snprintf(what, sizeof what, "all day of %u with marks %s", t.ticks, examples[e].marks);
+        planned_or_8(what, &t, examples[e].labels);
+    }
+}
+
+/* Start equal to end on both sides of R in a round, and in a run: planner, writer and reply. */
+static void all_day_taken(bool run, uint16_t ticks)
+{
+    const uint16_t starts[4] = {0, (uint16_t)(ticks - 1), ticks, 65535};
+    for (size_t i = 0; i < 4; i++) {
+        uint16_t window[1][2] = {{starts[i], starts[i]}};
+        char what[60];
+        struct lent t = marked(run, window, "0");
+        t.ticks = t.q1 = t.q2 = ticks;
+        snprintf(what, sizeof what, "%u to %u in a %s of %u", starts[i], starts[i], run ? "run" : "round", ticks);
+        if (!run && starts[i] < ticks) {
+            planned_or_8(what, &t, "1");
+            continue;
+        }
+        plan_refused(what, &t, 6);
+        t.labels[0] = 1;
+        write_refused(what, &t, 6);
+        replied_to(what, &t, "refused 6\n", false);
+    }
+}
+
+/* LISTEN s s of row 1 on receiver 1 beside two LISTENs on receiver 2: written, read back and played for two days from every tick, which tells the end at every tick. */
+static void all_day_played(uint8_t s)
+{
+    const uint8_t bytes[26] = {0x10, 0, 100, 0x20, 1, 0x30, 1, 0, s, 0, s, 0x20, 2, 0x30, 2, 0, 20, 0, 40, 0x30, 0, 0, 90, 0, 10, 0x7F};
+    const struct told told[5] = {{0, 10, {1, s}, {0, 10}}, {10, 20, {1, s}, IDLE}, {20, 40, {1, s}, {2, 40}}, {40, 90, {1, s}, IDLE}, {90, 100, {1, s}, {0, 10}}};
+    uint16_t windows[3][2] = {{90, 10}, {s, s}, {20, 40}};
+    struct lent t = lend(false, 3, windows);
+    t.marks[0] = HUB_MUST_2;
+    planned("all day beside two", &t, "212");
+    written("all day beside two", &t, bytes, sizeof bytes);
+    for (uint16_t first = 0; first < 100; first++)
+        played("all day beside two", bytes, sizeof bytes, first, 200, told);
+}
+
+/* LISTEN s s alone: 12 in a round from R on, and in a run always, where a step passes over it. */
+static void all_day_alone(void)
+{
+    static const uint8_t starts[4] = {0, 99, 100, 255};
+    for (size_t i = 0; i < 4; i++) {
+        uint8_t s = starts[i];
+        struct told told = {0, 0, {7, s}, IDLE}, none = {0, 0, IDLE, IDLE};
+        uint8_t bytes[14] = {0x10, 0, 100, 0x20, 1, 0x30, 7, 0, s, 0, s, 0x20, 2, 0x7F};
+        if (s < 100)
+            check_refusal("LISTEN s s in a round", hub_player_start(bytes, 14, 0).refusal, 0);
+        else
+            start_refused("LISTEN s s in a round, s not below R", bytes, 14, 0, 12);
+        stepped("LISTEN s s in a round", s < 100 ? &told : &none, step(bytes, 14, 98), 99);
+        bytes[0] = 0x11;
+        start_refused("LISTEN s s in a run", bytes, 14, 0, 12);
+        stepped("LISTEN s s in a run", &none, step(bytes, 14, 98), 99);
+    }
+}
+
+/* Two LISTENs of one receiver, from 30 and from 60: 12 where one covers every tick. */
+static void all_day_beside(void)
+{
+    static const uint8_t ends[4][2] = {{30, 61}, {31, 60}, {30, 60}, {31, 61}};
+    for (size_t i = 0; i < 4; i++) {
+        const uint8_t bytes[20] = {0x10, 0, 100, 0x20, 1, 0x30, 7, 0, 30, 0, ends[i][0], 0x30, 8, 0, 60, 0, ends[i][1], 0x20, 2, 0x7F};
+        if (i < 3)
+            start_refused("LISTEN s s beside another", bytes, 20, 0, 12);
+        else
+            check_refusal("two LISTENs of one tick", hub_player_start(bytes, 20, 0).refusal, 0);
+    }
+}
+
+static void all_day(void)
+{
+    all_day_planned();
+    for (int run = 0; run < 2; run++) {
+        all_day_taken(run, 2);
+        all_day_taken(run, 10);
+        all_day_taken(run, 43200);
+    }
+    all_day_played(0);
+    all_day_played(50);
+    all_day_played(99);
+    all_day_alone();
+    all_day_beside();
+    end_group("all day");
+}
+
 /* Wrong in every way: mended one by one, the refusals come in the order that the header gives. */
 static struct lent all_wrong(bool run)
 {
     struct lent t = many(run, ROWS + 1);
     t.ticks = 1;
     t.p1 = 51;
-    t.ends[0] = 0;
+    t.ends[0] = run ? 0 : 100; /* the start in a run, R in a round */
     t.marks[0] = 6;
     for (size_t i = 1; i < 4; i++) /* three rows that must be heard at once, in the hours of both receivers */
         t.starts[i] = 45, t.ends[i] = 46, t.marks[i] = 1;
@@ -922,7 +1031,7 @@ static void tape_refusals(void)
         {"neither ROUND nor RUN", 0, 0x40}, {"a run, in which no window goes over tick 0", 0, 0x11},
         {"RECEIVER 2 first", 4, 2}, {"RECEIVER 1 twice", 18, 1},
         {"row 64", 6, 64}, {"a row on both receivers", 6, 1}, {"a row twice on one receiver", 12, 0},
-        {"start and end equal", 10, 10}, {"end R in a round", 10, 100}, {"starts that do not rise", 14, 5},
+        {"a window that covers every tick beside another", 10, 10}, {"end R in a round", 10, 100}, {"starts that do not rise", 14, 5},
         {"windows that overlap", 10, 91}, {"windows that overlap after tick 0", 16, 11},
         {"a LISTEN's byte wrong", 11, 0x40}, {"no STOP", 25, 0x7E}};
     uint8_t bytes[27];
@@ -1024,6 +1133,7 @@ int main(void)
     rounds();
     runs();
     marks();
+    all_day();
     all_refusals();
     limits();
     replies();

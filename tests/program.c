@@ -267,6 +267,53 @@ static void marks(void)
         }
 }
 
+/* Rows that send all day: in a round, start equal to end covers every tick. */
+static void all_day_examples(void)
+{
+    static const unsigned three[3][2] = {{3, 3}, {7, 7}, {0, 0}}, one[3][2] = {{3, 3}, {0, 2}, {5, 8}}, two[3][2] = {{3, 3}, {8, 8}, {5, 6}};
+    static const struct {
+        unsigned commands[3];
+        const unsigned (*windows)[2];
+        const char *reply;
+    } examples[] = {
+        {{WINDOW, WINDOW, WINDOW}, three, "heard 2\n0 1\n1 2\n2 0\n"},
+        {{WINDOW, WINDOW, MUST}, three, "heard 2\n0 1\n1 0\n2 2\n"},
+        {{MUST, WINDOW, WINDOW}, one, "heard 3\n0 1\n1 2\n2 2\n"},
+        {{MUST2, WINDOW, WINDOW}, one, "heard 3\n0 2\n1 1\n2 1\n"},
+        {{MUST1, WINDOW, MUST1}, one, "refused 8\n"},
+        {{MUST, MUST, WINDOW}, two, "heard 2\n0 1\n1 2\n2 0\n"},
+        {{MUST, MUST, MUST}, two, "refused 8\n"},
+    };
+    for (size_t i = 0; i < sizeof examples / sizeof examples[0]; i++)
+        make_stopped(few_rows(3, examples[i].commands, examples[i].windows), examples[i].reply);
+}
+
+/* R, a start that is the end too, and the replies in a round and in a run. */
+static void all_day_edges(void)
+{
+    static const struct {
+        unsigned ticks, start;
+        const char *replies[2];
+    } edges[] = {
+        {2, 0, {"heard 1\n0 1\n", "refused 6\n"}},         {2, 1, {"heard 1\n0 1\n", "refused 6\n"}},
+        {2, 2, {"refused 6\n", "refused 6\n"}},             {100, 50, {"heard 1\n0 1\n", "refused 6\n"}},
+        {43200, 43199, {"heard 1\n0 1\n", "refused 6\n"}}, {43200, 43200, {"refused 6\n", "refused 6\n"}},
+    };
+    for (size_t i = 0; i < 2 * sizeof edges / sizeof edges[0]; i++) {
+        unsigned ticks = edges[i / 2].ticks, start = edges[i / 2].start;
+        struct tape t = i % 2 ? run_of(ticks, 0, ticks, 0, ticks) : round_of(ticks);
+        put_row(&t, WINDOW, start, start);
+        make_stopped(t, edges[i / 2].replies[i % 2]);
+    }
+}
+
+static void all_day(void)
+{
+    begin_kind("all-day");
+    all_day_examples();
+    all_day_edges();
+}
+
 /* The replies of the planner's refusals, with the nearest tapes that are taken. A tape has no mark above 5, so 7 cannot come. */
 static void refused(void)
 {
@@ -278,7 +325,6 @@ static void refused(void)
     make_stopped(run_of(100, 51, 50, 0, 100), "refused 5\n");
     make_stopped(run_of(100, 50, 50, 0, 100), "heard 0\n");
     make_stopped(run_of(100, 0, 100, 0, 101), "refused 5\n");
-    make_stopped(one_window(100, 50, 50), "refused 6\n");
     make_stopped(one_window(100, 0, 100), "refused 6\n");
     struct tape t = run_of(100, 0, 100, 0, 100);
     put_row(&t, WINDOW, 0, 100);
@@ -303,20 +349,20 @@ static unsigned below(unsigned limit)
     return (unsigned)(state >> 33) % limit;
 }
 
-/* A tape of the form. Most are of tables that are taken: a window that ends too late in a run, or is empty, is rare. */
+/* A tape of the form. Most are of tables that are taken: an end at R in a round, or at the start in a run, is rare. In a round some rows send all day. */
 static struct tape random_tape(void)
 {
-    unsigned ticks = 2 + below(below(2) ? 40 : 2000), run = below(2), rows = below(65), musts = below(3);
+    unsigned ticks = 2 + below(below(2) ? 40 : 2000), run = below(2), rows = below(65), musts = below(3), all_day = 2 + below(30);
     unsigned q1 = below(ticks + 1), p2 = below(ticks);
     struct tape t = run ? run_of(ticks, below(q1 + 1), q1, p2, p2 + below(ticks - p2 + 1)) : round_of(ticks);
     for (unsigned i = 0; i < rows; i++) {
-        unsigned start = below(ticks), length = 1 + below(ticks - 1), end = start + length;
+        unsigned start = below(ticks), length = below(all_day) ? 1 + below(ticks - 1) : ticks, end = start + length;
         if (run)
             end = end > ticks ? ticks : end;
         else
             end = end % ticks;
         if (below(2000) == 0)
-            end = start;
+            end = run ? start : ticks;
         unsigned must = below(40) < musts, receiver = below(4) ? 0 : 1 + below(2); /* 0 for either */
         put_row(&t, (must ? MUST : WINDOW) + 2 * receiver, start, end);
     }
@@ -404,6 +450,7 @@ int main(int count, char **words)
     lengths();
     longer();
     marks();
+    all_day();
     refused();
     random_tapes();
     damaged_tapes();

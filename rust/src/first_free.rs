@@ -3,6 +3,7 @@
 use crate::port::allows;
 use crate::{Kind, Refusal};
 
+/// A window that ends at its start is `ticks` long.
 fn covered(ticks: u16, start: u16, end: u16, tick: u16) -> bool {
     let (ticks, start, end, tick) = (ticks as u32, start as u32, end as u32, tick as u32);
     (tick + ticks - start) % ticks < (end + ticks - start - 1) % ticks + 1

@@ -105,7 +105,7 @@ impl Player {
     pub const FINISHED: Player = Player { tick: u16::MAX };
 }
 
-/// What a receiver does at a tick; `until` is the window's end as taped.
+/// What a receiver does at a tick; `until` is the window's end as taped, also at the end itself where the window covers every tick.
 #[derive(Clone, Copy, Debug, PartialEq, Eq)]
 pub enum Receiver {
     Idle,
@@ -250,6 +250,9 @@ fn answer(reported: c::HubAnswer) -> Result<usize, Refusal> {
 
 /// Plans a table, a row at each place of starts, ends and marks (0 to 5, see `mark`): the plan with the most heard rows, of those the first in paper 01's order. Gives the
 /// count, fills the labels and clears the first `SPACE_BYTES` of the working space; a refusal leaves labels and working space, except that `NoPlan` clears the same part.
+///
+/// In a round a window covers the ticks from its start on, after the last tick from 0 on, up to the tick before its end; start equal to end covers every tick and overlaps
+/// every window. Both are below `ticks`, else `Window`. In a run a window covers its start to the tick before its end; the start is below the end and the end at most `ticks`.
 pub fn plan(kind: Kind, ticks: u16, starts: &[u16], ends: &[u16], marks: &[u8], labels: &mut [u8], space: &mut [u8]) -> Result<usize, Refusal> {
     // SAFETY: each address comes with its slice's length, and the borrow rules keep the written slices apart from all others.
     answer(unsafe {

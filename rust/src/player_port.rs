@@ -30,7 +30,7 @@ fn is_window(run: bool, ticks: u16, start: u16, end: u16) -> bool {
     if run {
         start < end && end <= ticks
     } else {
-        start < ticks && end < ticks && start != end
+        start < ticks && end < ticks
     }
 }
 
@@ -44,6 +44,11 @@ fn distance(ticks: u16, from: u16, to: u16) -> u16 {
     }
 }
 
+/// Whether a window covers a tick, if it breaks no rule; one that ends at its start covers every tick.
+fn covers(ticks: u16, start: u16, end: u16, tick: u16) -> bool {
+    start == end || distance(ticks, start, tick) < distance(ticks, start, end)
+}
+
 /// What the LISTENs of the receiver with which the bytes begin tell at a tick, and the bytes after them.
 fn told(run: bool, ticks: u16, tick: u16, bytes: &[u8]) -> (Receiver, &[u8]) {
     let [0x20, _, rest @ ..] = bytes else {
@@ -51,7 +56,7 @@ fn told(run: bool, ticks: u16, tick: u16, bytes: &[u8]) -> (Receiver, &[u8]) {
     };
     let (mut receiver, mut rest) = (Receiver::Idle, rest);
     while let Some((Listen { row, start, end }, after)) = listen(rest) {
-        if distance(ticks, start, tick) < distance(ticks, start, end) && is_window(run, ticks, start, end) {
+        if covers(ticks, start, end, tick) && is_window(run, ticks, start, end) {
             receiver = Receiver::Listening { row, until: end };
         }
         rest = after;
@@ -76,7 +81,7 @@ pub fn step(tape: &[u8], player: Player) -> Stepped {
 }
 
 /// The bytes after the part of a receiver, if the writer can write it beside the rows that are taken. Starts rise, so a window that meets another meets the next one, or it
-/// is the last, goes over the end of the day and meets the first.
+/// is the last, goes over the end of the day and meets the first. A window that ends at or before its start leaves no tick for a next one.
 fn after_part<'a>(run: bool, ticks: u16, number: u8, bytes: &'a [u8], rows: &mut u64) -> Option<&'a [u8]> {
     let [0x20, stands, rest @ ..] = bytes else {
         return None;
@@ -89,7 +94,7 @@ fn after_part<'a>(run: bool, ticks: u16, number: u8, bytes: &'a [u8], rows: &mut
         }
         *rows |= 1 << row;
         first = first.or(Some(start));
-        (free, over_end) = if end < start { (ticks, end) } else { (end, 0) };
+        (free, over_end) = if end <= start { (ticks, end) } else { (end, 0) };
         rest = after;
     }
     (*stands == number && over_end <= first.unwrap_or(0)).then_some(rest)

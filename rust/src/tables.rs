@@ -54,7 +54,7 @@ impl Table {
         self.starts.len()
     }
 
-    /// A row of a round that starts at a tick, which may be past the end of the day, and is so many ticks long.
+    /// A row of a round that starts at a tick, which may be past the end of the day, and is so many ticks long, up to R.
     fn push_arc(&mut self, start: u32, length: u32) {
         let ticks = self.ticks as u32;
         self.starts.push((start % ticks) as u16);
@@ -116,14 +116,24 @@ pub fn scattered(rows: u32, percent: u32, seed: u64) -> Table {
     table
 }
 
-/// Half the rows spread one to two deep, the other half almost all day.
-pub fn half_all_day(rows: u32, seed: u64) -> Table {
+/// Half the rows spread one to two deep, the other half from `low` to `high` ticks less than all day.
+pub fn half_long(rows: u32, low: u32, high: u32, seed: u64) -> Table {
     let mut sequence = Sequence::new(seed);
     let mut table = deep(rows / 2, 1, 2, seed + 1);
     for _ in rows / 2..rows {
-        table.push_arc(sequence.within(0, DAY - 1), DAY - sequence.within(1, 3_000));
+        table.push_arc(sequence.within(0, DAY - 1), DAY - sequence.within(low, high));
     }
     table.shuffle(&mut sequence);
+    table
+}
+
+/// Rows that send all day, with scattered starts.
+pub fn all_day(rows: u32, seed: u64) -> Table {
+    let mut sequence = Sequence::new(seed);
+    let mut table = Table::empty(Kind::Round, DAY as u16);
+    for _ in 0..rows {
+        table.push_arc(sequence.within(0, DAY - 1), DAY);
+    }
     table
 }
 
@@ -192,7 +202,9 @@ pub fn benchmark_tables() -> Vec<(&'static str, Table)> {
         ("4 to 5 deep", deep(64, 4, 5, 3)),
         ("16 deep", deep(64, 15, 17, 4)),
         ("32 deep", deep(64, 31, 33, 10)),
-        ("half the rows almost all day", half_all_day(64, 5)),
+        ("half the rows almost all day", half_long(64, 1, 3_000, 5)),
+        ("half the rows send all day", half_long(64, 0, 0, 13)),
+        ("all rows send all day", all_day(64, 14)),
         ("run with uneven hours", uneven_run(64, 6)),
         ("all must, no plan", all_must(64, 7)),
         ("32 windows and 32 long arcs", long_arcs(8)),

@@ -38,6 +38,14 @@ fn compare_plan(planner: Planner, table: &Table, labels: usize, space: usize, ri
     right.0
 }
 
+/// Writes a tape into the buffer and compares answer and buffer with what the rules ask; gives the refusal's number.
+fn compare_written(rules: &papers::Rules, table: &Table, labels: &[u8], mut buffer: Vec<u8>) -> u8 {
+    let right = papers::written(rules, table, labels, &buffer);
+    let answer = hubplan::write_plan(table.kind, table.ticks, &table.starts, &table.ends, &table.marks, labels, &mut buffer);
+    assert_eq!((numbers(answer), buffer), ((right.0, right.1), right.2), "{table:?} {labels:?}");
+    right.0
+}
+
 fn right_plan(table: &Table, labels: usize, space: usize) -> (u8, usize, Vec<u8>) {
     let before: Vec<u8> = (0..labels).map(|i| 0xa0 + i as u8 % 7).collect();
     papers::planned(&papers::RULES, table, &before, space)
@@ -53,8 +61,16 @@ fn random_hours(sequence: &mut Sequence, ticks: u32) -> [[u16; 2]; 2] {
     })
 }
 
-/// A table that passes its checks, of so many rows, with windows up to `longest` ticks, one row in `musts` marked must and one in `onlys` for one receiver only.
-fn random_table(sequence: &mut Sequence, rows: usize, ticks: u32, longest: u32, musts: u32, onlys: u32) -> Table {
+/// Of how many rows of a random table one is marked must, one is for one receiver only, and one sends all day, in a round.
+#[derive(Clone, Copy)]
+struct OneIn {
+    must: u32,
+    only: u32,
+    all_day: u32,
+}
+
+/// A table that passes its checks, of so many rows, with windows up to `longest` ticks and those that send all day.
+fn random_table(sequence: &mut Sequence, rows: usize, ticks: u32, longest: u32, one_in: OneIn) -> Table {
     let kind = if sequence.one_in(2) {
         Kind::Round
     } else {
@@ -69,7 +85,11 @@ fn random_table(sequence: &mut Sequence, rows: usize, ticks: u32, longest: u32, 
             table.ends.push(table.ends[j]);
         } else if kind == Kind::Round {
             let start = sequence.within(0, ticks - 1);
-            let length = sequence.within(1, longest.min(ticks - 1));
+            let length = if sequence.one_in(one_in.all_day) {
+                ticks
+            } else {
+                sequence.within(1, longest.min(ticks - 1))
+            };
             table.starts.push(start as u16);
             table.ends.push(((start + length) % ticks) as u16);
         } else {
@@ -78,8 +98,8 @@ fn random_table(sequence: &mut Sequence, rows: usize, ticks: u32, longest: u32, 
             table.starts.push(start as u16);
             table.ends.push((start + length) as u16);
         }
-        let must = sequence.one_in(musts) as u8;
-        let only = if sequence.one_in(onlys) { sequence.within(1, 2) as u8 } else { 0 };
+        let must = sequence.one_in(one_in.must) as u8;
+        let only = if sequence.one_in(one_in.only) { sequence.within(1, 2) as u8 } else { 0 };
         table.marks.push(2 * only + must);
     }
     table
@@ -88,10 +108,32 @@ fn random_table(sequence: &mut Sequence, rows: usize, ticks: u32, longest: u32, 
 fn random_setting(sequence: &mut Sequence, rows: usize) -> Table {
     let ticks = [2, 3, 10, 24, 60, 100, 1_000, 43_200][sequence.within(0, 7) as usize];
     let longest = (ticks * sequence.within(1, 12) / rows.max(1) as u32).clamp(1, ticks);
-    // musts for one receiver only soon leave no plan, so either is rare in many tables
-    let musts = [3, 8, 20, 1_000][sequence.within(0, 3) as usize];
-    let onlys = [1, 2, 4, 1_000][sequence.within(0, 3) as usize];
-    random_table(sequence, rows, ticks, longest, musts, onlys)
+    // musts for one receiver only soon leave no plan, and so do musts beside rows that send all day: each is rare in many tables
+    let one_in = OneIn {
+        must: [3, 8, 20, 1_000][sequence.within(0, 3) as usize],
+        only: [1, 2, 4, 1_000][sequence.within(0, 3) as usize],
+        all_day: [2, 12, 1_000, 1_000][sequence.within(0, 3) as usize],
+    };
+    random_table(sequence, rows, ticks, longest, one_in)
+}
+
+/// Whether row i of a table that passes its checks sends all day.
+fn is_all_day(table: &Table, i: usize) -> bool {
+    table.starts[i] == table.ends[i]
+}
+
+/// Gives row i of a round a window of so many ticks from its start on, fewer than all.
+fn set_length(table: &mut Table, i: usize, length: u16) {
+    table.ends[i] = ((table.starts[i] as u32 + length as u32) % table.ticks as u32) as u16;
+}
+
+/// Whether it decides what is right that row i sends all day: with its first tick alone, and with one tick less than all, the answer or the labels are others.
+fn all_day_decides(table: &Table, i: usize, right: &(u8, usize, Vec<u8>)) -> [bool; 2] {
+    [1, table.ticks - 1].map(|length| {
+        let mut other = table.clone();
+        set_length(&mut other, i, length);
+        right_plan(&other, table.rows(), SPACE_BYTES) != *right
+    })
 }
 
 /// Marks as they are for either receiver: 2 and 4 become 0, 3 and 5 become 1.
@@ -104,6 +146,12 @@ fn decides(table: &Table, i: usize, right: &(u8, usize, Vec<u8>)) -> bool {
     let mut other = table.clone();
     other.marks[i] = for_either(table.marks[i]);
     other != *table && right_plan(&other, table.rows(), SPACE_BYTES) != *right
+}
+
+/// Counts the cases that were met.
+fn count(times: &mut [u32; 2], met: [bool; 2]) {
+    times[0] += u32::from(met[0]);
+    times[1] += u32::from(met[1]);
 }
 
 /// Windows and marks as a table.
@@ -121,7 +169,7 @@ fn table_of(kind: Kind, ticks: u16, rows: &[(u16, u16, u8)]) -> Table {
 fn up_to_8_rows_against_all_labels() {
     let mut sequence = Sequence::new(100);
     let (mut none, mut runs) = (0, 0);
-    let mut deciding = [0; 6];
+    let (mut deciding, mut all_day, mut all_day_deciding) = ([0; 6], 0, [0; 2]);
     for turn in 0..12_000 {
         let rows = if turn % 8 == 0 { 8 } else { sequence.within(0, 7) as usize };
         let table = random_setting(&mut sequence, rows);
@@ -134,10 +182,18 @@ fn up_to_8_rows_against_all_labels() {
         for i in 0..rows {
             deciding[table.marks[i] as usize] += u32::from(decides(&table, i, &right));
         }
+        for i in (0..rows).filter(|&i| is_all_day(&table, i)) {
+            all_day += 1;
+            count(&mut all_day_deciding, all_day_decides(&table, i, &right));
+        }
     }
     assert!(
         none > 900 && none < 11_100 && runs > 4_000 && runs < 8_000,
         "{none} without a plan, {runs} runs"
+    );
+    assert!(
+        all_day_deciding[0] > 1_000 && all_day_deciding[1] > 150,
+        "{all_day} rows that send all day, of which decide: {all_day_deciding:?}"
     );
     assert!(deciding[2..].iter().all(|&times| times > 300), "marks that decide: {deciding:?}");
 }
@@ -146,7 +202,7 @@ fn up_to_8_rows_against_all_labels() {
 fn larger_tables_against_the_search() {
     let mut sequence = Sequence::new(200);
     let mut none = 0;
-    let mut deciding = [0; 6];
+    let (mut deciding, mut all_day, mut all_day_deciding) = ([0; 6], 0, [0; 2]);
     for turn in 0..3_000 {
         let rows = if turn % 4 == 0 { 64 } else { sequence.within(9, 64) as usize };
         let table = random_setting(&mut sequence, rows);
@@ -162,8 +218,16 @@ fn larger_tables_against_the_search() {
                 deciding[mark as usize] += u32::from(decides(&table, i, &right));
             }
         }
+        if let Some(i) = (0..rows).find(|&i| is_all_day(&table, i)) {
+            all_day += 1;
+            count(&mut all_day_deciding, all_day_decides(&table, i, &right));
+        }
     }
     assert!(none > 300 && none < 2_700, "{none} without a plan");
+    assert!(
+        all_day_deciding[0] > 200 && all_day_deciding[1] > 15,
+        "{all_day} tables with rows that send all day, of which the first decides: {all_day_deciding:?}"
+    );
     assert!(deciding[2..].iter().all(|&times| times > 100), "marks that decide: {deciding:?}");
 }
 
@@ -233,11 +297,13 @@ fn damage(sequence: &mut Sequence, table: &mut Table, labels: &mut usize, space:
             9 | 10 if table.rows() > 0 && table.rows() == table.ends.len() => {
                 let i = row(sequence, table);
                 let (start, end) = (table.starts[i], table.ends[i]);
-                (table.starts[i], table.ends[i]) = match sequence.within(0, 4) {
+                // in a round start and end may be equal or exchanged, in a run the end may be R; all else is a fault
+                (table.starts[i], table.ends[i]) = match sequence.within(0, 5) {
                     0 => (start, start),
                     1 => (table.ticks, end),
                     2 => (start, table.ticks),
-                    3 => (65_535, 65_535),
+                    3 => (table.ticks, table.ticks),
+                    4 => (65_535, 65_535),
                     _ => (end, start),
                 };
             }
@@ -338,10 +404,59 @@ fn marks_by_hand() {
     }
 }
 
+/// Rows in a round or run of so many ticks, and the labels worked out by hand, or the refusal. After a refusal labels, working space (8 aside) and tape are as they were.
+#[test]
+fn all_day_by_hand() {
+    type Case<'a> = (Kind, u16, &'a [(u16, u16, u8)], Result<&'a [u8], u8>);
+    let (round, run) = (Kind::Round, Kind::Run([[0, 10]; 2]));
+    let cases: [Case; 24] = [
+        // "Three of them alone in a round, with mark 0, give labels 1 2 0."
+        (round, 10, &[(3, 3, 0), (7, 7, 0), (0, 0, 0)], Ok(&[1, 2, 0])),
+        (round, 10, &[(3, 3, 0), (3, 3, 0), (3, 3, 0)], Ok(&[1, 2, 0])),
+        (round, 43_200, &[(0, 0, 0), (43_199, 43_199, 0), (1, 1, 0)], Ok(&[1, 2, 0])),
+        // "Such a window overlaps every other."
+        (round, 10, &[(3, 3, 1), (0, 2, 0), (5, 8, 0)], Ok(&[1, 2, 2])),
+        (round, 10, &[(3, 3, 0), (0, 4, 0), (2, 6, 0), (5, 9, 0)], Ok(&[1, 2, 0, 2])),
+        (round, 10, &[(0, 4, 1), (3, 3, 0), (2, 6, 1), (5, 9, 0)], Ok(&[1, 0, 2, 1])),
+        (round, 10, &[(3, 3, 1), (8, 8, 1), (5, 6, 0)], Ok(&[1, 2, 0])),
+        (round, 10, &[(3, 3, 1), (8, 8, 1), (5, 6, 1)], Err(8)),
+        (round, 10, &[(3, 3, 1), (8, 8, 1), (4, 4, 1)], Err(8)),
+        (round, 10, &[(3, 3, 5), (0, 2, 0), (5, 8, 3)], Ok(&[2, 1, 1])),
+        (round, 10, &[(3, 3, 3), (5, 6, 3)], Err(8)),
+        (round, 2, &[(0, 0, 0), (1, 1, 0), (0, 1, 0)], Ok(&[1, 2, 0])),
+        (round, 2, &[(1, 1, 0), (0, 1, 0), (1, 0, 0)], Ok(&[1, 2, 2])),
+        (round, 2, &[(0, 0, 1), (1, 1, 1), (1, 0, 1)], Err(8)),
+        // "both must still be below R, and a run refuses it as before"
+        (round, 10, &[(9, 9, 0)], Ok(&[1])),
+        (round, 10, &[(10, 10, 0)], Err(6)),
+        (round, 43_200, &[(43_200, 43_200, 0)], Err(6)),
+        (round, 2, &[(0, 0, 0), (2, 2, 0)], Err(6)),
+        (run, 10, &[(0, 0, 0)], Err(6)),
+        (run, 10, &[(1, 2, 0), (9, 9, 0)], Err(6)),
+        (run, 10, &[(10, 10, 0)], Err(6)),
+        // P12, whose second row is now a window, and the same with a mark that is not refused
+        (round, 10, &[(1, 2, 9), (3, 3, 0)], Err(7)),
+        (round, 10, &[(1, 2, 5), (3, 3, 0)], Ok(&[2, 1])),
+        (round, 10, &[(3, 3, 6)], Err(7)),
+    ];
+    for (kind, ticks, rows, labels) in cases {
+        let table = table_of(kind, ticks, rows);
+        let right = right_plan(&table, rows.len(), SPACE_BYTES);
+        assert_eq!(if right.0 == 0 { Ok(&right.2[..]) } else { Err(right.0) }, labels, "{table:?}");
+        compare_plan(hubplan::plan, &table, rows.len(), SPACE_BYTES, &right);
+        compare_plan(port::plan, &table, rows.len(), SPACE_BYTES, &right);
+        // where there is no plan labels 1 for all are none
+        let offered = labels.map_or(vec![1; rows.len()], <[u8]>::to_vec);
+        let refusal = compare_written(&papers::RULES, &table, &offered, vec![0x55; PLAN_TAPE_BYTES]);
+        assert_eq!(refusal, if right.0 == 8 { 9 } else { right.0 }, "{table:?}");
+    }
+}
+
 #[test]
 fn refusal_7_begins_at_mark_6() {
     for mark in 0..=255 {
-        let table = table_of(Kind::Round, 10, &[(1, 2, mark), (3, 3, 0)]);
+        // the second row ends at R
+        let table = table_of(Kind::Round, 10, &[(1, 2, mark), (3, 10, 0)]);
         let right = right_plan(&table, 2, SPACE_BYTES);
         assert_eq!(right.0, if mark < 6 { 6 } else { 7 });
         compare_plan(hubplan::plan, &table, 2, SPACE_BYTES, &right);
@@ -351,49 +466,96 @@ fn refusal_7_begins_at_mark_6() {
     }
 }
 
-/// "Tables with only 0 and 1 keep their plans": compared with the former rules, which refuse every other mark.
-#[test]
-fn tables_with_only_0_and_1_keep_their_plans() {
-    let mut sequence = Sequence::new(450);
-    let (mut planned, mut none, mut unknown, mut taken) = (0, 0, 0, 0);
+/// Rules before a request: they know rows that do not send all day, with marks up to the highest.
+struct Former {
+    rules: papers::Rules,
+    highest_mark: u8,
+}
+
+/// What the former rules refuse of a table that passes its checks now: the first row that sends all day (6) or has a mark that they do not know (7); 0 where they know all rows.
+fn unknown(former: &Former, table: &Table) -> u8 {
+    let of_row = |i: usize| {
+        if is_all_day(table, i) {
+            6
+        } else if table.marks[i] > former.highest_mark {
+            7
+        } else {
+            0
+        }
+    };
+    (0..table.rows()).map(of_row).find(|&refusal| refusal > 0).unwrap_or(0)
+}
+
+/// A table that the former rules know: rows that send all day have a tick less, and marks that they do not know become those for either receiver.
+fn as_known(former: &Former, table: &Table) -> Table {
+    let mut known = table.clone();
+    for i in 0..table.rows() {
+        if is_all_day(table, i) {
+            set_length(&mut known, i, table.ticks - 1);
+        }
+        if table.marks[i] > former.highest_mark {
+            known.marks[i] = for_either(table.marks[i]);
+        }
+    }
+    known
+}
+
+/// Plans a table that the former rules know, and writes tapes: all as by those rules. Gives the refusals of plan and tape.
+fn compare_with_former(sequence: &mut Sequence, former: &Former, table: &Table) -> (u8, u8) {
+    let rows = table.rows();
+    let before: Vec<u8> = (0..rows).map(|i| 0xa0 + i as u8 % 7).collect();
+    let plan = papers::planned(&former.rules, table, &before, SPACE_BYTES);
+    compare_plan(hubplan::plan, table, rows, SPACE_BYTES, &plan);
+    compare_plan(port::plan, table, rows, SPACE_BYTES, &plan);
+    assert_eq!(right_plan(table, rows, SPACE_BYTES), plan, "{table:?}");
+    // and what is a plan at all stays, the tape with it
+    let labels: Vec<u8> = plan
+        .2
+        .iter()
+        .map(|&label| if sequence.one_in(9) { sequence.within(0, 3) as u8 } else { label })
+        .collect();
+    (plan.0, compare_written(&former.rules, table, &labels, vec![0x55; PLAN_TAPE_BYTES]))
+}
+
+/// Random tables, as drawn and with all rows such as the former rules know: they refuse the first row that they do not know, and what they know keeps its plan.
+fn keep_their_plans(former: &Former, seed: u64) -> [[u32; 13]; 3] {
+    let mut sequence = Sequence::new(seed);
+    let [mut refused, mut planned, mut written] = [[0; 13]; 3];
     for turn in 0..2_000 {
         let rows = if turn % 8 == 0 { 64 } else { sequence.within(0, 20) as usize };
-        let mut table = random_setting(&mut sequence, rows);
-        let before: Vec<u8> = (0..rows).map(|i| 0xa0 + i as u8 % 7).collect();
-        let other_marks = table.marks.iter().any(|&mark| mark > 1);
-        assert_eq!(
-            papers::planned(&papers::former::RULES, &table, &before, SPACE_BYTES).0 == 7,
-            other_marks,
-            "{table:?}"
-        );
-        unknown += u32::from(other_marks);
-        table.marks = table.marks.into_iter().map(for_either).collect();
-        let former = papers::planned(&papers::former::RULES, &table, &before, SPACE_BYTES);
-        compare_plan(hubplan::plan, &table, rows, SPACE_BYTES, &former);
-        compare_plan(port::plan, &table, rows, SPACE_BYTES, &former);
-        assert_eq!(right_plan(&table, rows, SPACE_BYTES), former, "{table:?}");
-        // and what is a plan at all stays, the tape with it
-        let labels: Vec<u8> = former
-            .2
-            .iter()
-            .map(|&label| if sequence.one_in(9) { sequence.within(0, 3) as u8 } else { label })
-            .collect();
-        let mut buffer = vec![0x55; PLAN_TAPE_BYTES];
-        let former_tape = papers::written(&papers::former::RULES, &table, &labels, &buffer);
-        let answer = hubplan::write_plan(table.kind, table.ticks, &table.starts, &table.ends, &table.marks, &labels, &mut buffer);
-        assert_eq!(
-            (numbers(answer), buffer),
-            ((former_tape.0, former_tape.1), former_tape.2),
-            "{table:?} {labels:?}"
-        );
-        planned += u32::from(former.0 == 0);
-        none += u32::from(former.0 == 8);
-        taken += u32::from(former_tape.0 == 0);
+        let table = random_setting(&mut sequence, rows);
+        let refusal = unknown(former, &table);
+        if refusal > 0 {
+            let labels = vec![9; rows];
+            let by_former = papers::planned(&former.rules, &table, &labels, SPACE_BYTES);
+            assert_eq!(by_former, (refusal, 0, labels), "{table:?}");
+        }
+        let (plan, tape) = compare_with_former(&mut sequence, former, &as_known(former, &table));
+        refused[refusal as usize] += 1;
+        planned[plan as usize] += 1;
+        written[tape as usize] += 1;
     }
-    assert!(
-        planned > 1_000 && none > 200 && unknown > 1_000 && taken > 300,
-        "{planned} with a plan, {none} without, {unknown} that the former rules refuse, {taken} tapes"
-    );
+    [refused, planned, written]
+}
+
+/// "Tables with only 0 and 1 keep their plans": compared with the rules before request 2, which refuse every other mark and, as yet, start equal to end.
+#[test]
+fn tables_with_only_0_and_1_keep_their_plans() {
+    let rules = papers::former::BEFORE_2;
+    let met = keep_their_plans(&Former { rules, highest_mark: 1 }, 450);
+    let [refused, planned, written] = met;
+    assert!(refused[0] > 200 && refused[6] > 200 && refused[7] > 700, "{met:?}");
+    assert!(planned[0] > 1_000 && planned[8] > 200 && written[0] > 300 && written[9] > 300, "{met:?}");
+}
+
+/// Tables in which no row sends all day keep their plans, with marks 0 to 5: compared with the rules before request 3, which refuse start equal to end in a round too.
+#[test]
+fn tables_without_all_day_rows_keep_their_plans() {
+    let rules = papers::former::BEFORE_3;
+    let met = keep_their_plans(&Former { rules, highest_mark: 5 }, 470);
+    let [refused, planned, written] = met;
+    assert!(refused[0] > 1_000 && refused[6] > 300, "{met:?}");
+    assert!(planned[0] > 1_000 && planned[8] > 200 && written[0] > 300 && written[9] > 300, "{met:?}");
 }
 
 /// The labels of a best plan under marks 0 and 1, with each of the marks 2 to 5 put to a row: the writer takes them exactly if that row is not on the receiver that the mark
@@ -431,7 +593,7 @@ fn labels_on_the_wrong_receiver_are_no_plan() {
 #[test]
 fn plan_tapes() {
     let mut sequence = Sequence::new(500);
-    let mut seen = [0; 12];
+    let (mut seen, mut all_day) = ([0; 12], 0);
     for turn in 0..20_000 {
         let rows = if turn % 10 == 0 { 64 } else { sequence.within(0, 12) as usize };
         let mut table = random_setting(&mut sequence, rows);
@@ -453,14 +615,13 @@ fn plan_tapes() {
         } else {
             sequence.within(0, 8 + 6 * rows as u32) as usize
         };
-        let mut buffer: Vec<u8> = (0..room).map(|i| i as u8 ^ 0x55).collect();
-        let right = papers::written(&papers::RULES, &table, &labels, &buffer);
-        let answer = hubplan::write_plan(table.kind, table.ticks, &table.starts, &table.ends, &table.marks, &labels, &mut buffer);
-        assert_eq!(numbers(answer), (right.0, right.1), "{table:?} {labels:?}");
-        assert_eq!(buffer, right.2, "{table:?} {labels:?}");
-        seen[right.0 as usize] += 1;
+        let buffer: Vec<u8> = (0..room).map(|i| i as u8 ^ 0x55).collect();
+        let refusal = compare_written(&papers::RULES, &table, &labels, buffer);
+        seen[refusal as usize] += 1;
+        all_day += u32::from(refusal == 0 && (0..rows).any(|i| labels[i] > 0 && is_all_day(&table, i)));
     }
     assert!([0, 1, 2, 4, 5, 6, 7, 9, 10].iter().all(|&number| seen[number] > 100), "{seen:?}");
+    assert!(all_day > 300, "{all_day} tapes with a row that sends all day");
 }
 
 /// A fleet tape, now and then damaged: cut, changed, or with bytes put in.
@@ -585,7 +746,12 @@ fn replies() {
 #[test]
 fn the_papers_agree_with_themselves() {
     // the longest tape that `hubplan` takes has 64 rows in a run with room to spare, and 79 in a round
-    assert!(papers::fleet_tape(&random_table(&mut Sequence::new(1), 64, 100, 10, 2, 2)).len() <= FLEET_TAPE_BYTES);
+    let one_in = OneIn {
+        must: 2,
+        only: 2,
+        all_day: 2,
+    };
+    assert!(papers::fleet_tape(&random_table(&mut Sequence::new(1), 64, 100, 10, one_in)).len() <= FLEET_TAPE_BYTES);
     let tape = [
         0x10, 0x00, 0x64, 0x40, 0x00, 0x0a, 0x00, 0x1e, 0x40, 0x00, 0x14, 0x00, 0x28, 0x40, 0x00, 0x19, 0x00, 0x32, 0x40, 0x00, 0x5a, 0x00, 0x0a,
         0x7f,

@@ -1,13 +1,30 @@
-//! The rules as they were before request 2, in the words of paper 01, which know no mark above 1: what "Tables with only 0 and 1 keep their plans" is compared with.
+//! The rules as they were before requests of paper 02: what "Tables with only 0 and 1 keep their plans" is compared with, and that request 3 changes nothing of a table in which
+//! no row sends all day. `BEFORE_2` are the rules that request 2 changed, and so on.
 
-use super::{in_hours, Rules};
+use super::{allowed, in_hours, window_holds, Rules, RULES};
 use hubplan::tables::Table;
 
+/// Request 3 changed check 6 alone: what a window covers whose start and end differ is as it was.
+pub const BEFORE_3: Rules = Rules {
+    window_holds: window_differs,
+    highest_mark: RULES.highest_mark,
+    allowed,
+};
+
 /// "7: a mark above 1."
-pub const RULES: Rules = Rules { highest_mark: 1, allowed };
+pub const BEFORE_2: Rules = Rules {
+    window_holds: window_differs,
+    highest_mark: 1,
+    allowed: allowed_before_2,
+};
+
+/// "A start equal to its end is an empty window and is refused."
+fn window_differs(table: &Table, i: usize) -> bool {
+    window_holds(table, i) && table.starts[i] != table.ends[i]
+}
 
 /// "Every label is 0, 1 or 2", "every row marked must has 1 or 2".
-fn allowed(table: &Table, i: usize, label: u8) -> bool {
+fn allowed_before_2(table: &Table, i: usize, label: u8) -> bool {
     let must = table.marks[i] == 1;
     label <= 2 && !(must && label == 0) && in_hours(table, i, label)
 }

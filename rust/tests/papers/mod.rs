@@ -1,6 +1,6 @@
-//! Papers 00 and 01 once more, with request 2 of paper 02, and request 1 in player.rs, written from their text alone and sharing no code with the planner: the comparison for
-//! the tests. Windows are sets of ticks, found by walking; up to 8 rows every list of labels is tried; a larger table is planned by a forward search over what each receiver
-//! is busy with. The rules that request 2 changed stand as they were in former.rs.
+//! Papers 00 and 01 once more, with requests 2 and 3 of paper 02, and request 1 in player.rs, written from their text alone and sharing no code with the planner: the comparison
+//! for the tests. Windows are sets of ticks, found by walking; up to 8 rows every list of labels is tried; a larger table is planned by a forward search over what each receiver
+//! is busy with. The rules that requests 2 and 3 changed stand as they were in former.rs.
 
 pub mod former;
 pub mod player;
@@ -9,7 +9,8 @@ use hubplan::tables::Table;
 use hubplan::Kind;
 use std::collections::HashMap;
 
-/// The ticks of a window as bits, walked as paper 01 says: start, start + 1 and so on, from R - 1 to 0 in a round, up to the tick before the end.
+/// The ticks of a window as bits, walked as paper 01 says: start, start + 1 and so on, from R - 1 to 0 in a round, up to the tick before the end. The start is covered, so the
+/// walk comes to the end after at least one step: "In a round, start equal to end now covers every tick."
 fn ticks_of(kind: Kind, ticks: u16, start: u16, end: u16) -> Vec<u64> {
     let ticks = ticks as usize;
     let mut set = vec![0u64; ticks.div_ceil(64)];
@@ -35,22 +36,28 @@ pub fn overlaps(table: &Table) -> Vec<Vec<bool>> {
     sets.iter().map(|a| sets.iter().map(|b| meet(a, b)).collect()).collect()
 }
 
-fn window_holds(table: &Table, i: usize) -> bool {
-    let (start, end) = (table.starts[i], table.ends[i]);
-    match table.kind {
-        Kind::Round => start < table.ticks && end < table.ticks && start != end,
-        Kind::Run(_) => start < end && end <= table.ticks,
-    }
-}
-
-/// What request 2 changed: the highest mark that is not refused, and which labels a row of a table may have, other rows aside.
+/// What requests 2 and 3 changed: whether a row's window passes check 6, the highest mark that is not refused, and which labels a row of a table may have, other rows aside.
 pub struct Rules {
+    window_holds: fn(&Table, usize) -> bool,
     highest_mark: u8,
     allowed: fn(&Table, usize, u8) -> bool,
 }
 
 /// "Refusal 7 now begins at mark 6."
-pub const RULES: Rules = Rules { highest_mark: 5, allowed };
+pub const RULES: Rules = Rules {
+    window_holds,
+    highest_mark: 5,
+    allowed,
+};
+
+/// In a round "refusal 6 no longer meets that case", start equal to end; "both must still be below R, and a run refuses it as before".
+fn window_holds(table: &Table, i: usize) -> bool {
+    let (start, end) = (table.starts[i], table.ends[i]);
+    match table.kind {
+        Kind::Round => start < table.ticks && end < table.ticks,
+        Kind::Run(_) => start < end && end <= table.ticks,
+    }
+}
 
 /// "0 and 1 as before, 2 and 3 may and must on receiver 1 only, 4 and 5 may and must on receiver 2 only."
 fn allowed(table: &Table, i: usize, label: u8) -> bool {
@@ -102,7 +109,7 @@ fn table_refusal(rules: &Rules, table: &Table) -> u8 {
         }
     }
     for i in 0..table.rows() {
-        if !window_holds(table, i) {
+        if !(rules.window_holds)(table, i) {
             return 6;
         }
         if table.marks[i] > rules.highest_mark {
@@ -175,11 +182,11 @@ impl Worth {
 }
 
 /// The right plan by a forward search from tick 0: for each choice of the rows that go over the end of the day, rows by start, keeping the best for each two ticks until
-/// which the receivers are busy.
+/// which the receivers are busy. A window that covers every tick goes over the end of the day, or lies from tick 0 to R - 1.
 pub fn plan_by_search(rules: &Rules, table: &Table) -> Option<Vec<u8>> {
     let rows = table.rows();
     let over_end: Vec<usize> = match table.kind {
-        Kind::Round => (0..rows).filter(|&i| table.ends[i] != 0 && table.ends[i] < table.starts[i]).collect(),
+        Kind::Round => (0..rows).filter(|&i| table.ends[i] != 0 && table.ends[i] <= table.starts[i]).collect(),
         Kind::Run(_) => vec![],
     };
     let end = |i: usize| if table.ends[i] == 0 { table.ticks } else { table.ends[i] };

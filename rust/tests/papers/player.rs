@@ -1,5 +1,5 @@
 //! Request 1 of paper 02 once more, from its text alone: a tape is taken if the writer, given the table that the tape states, writes these bytes; what is told at a tick is
-//! found by walking each window's ticks.
+//! found by walking each window's ticks, those of a window that covers every tick too: "as the tick until which it listens the player gives the window's end" (request 3).
 
 use super::{ticks_of, window_holds, written, RULES};
 use hubplan::tables::Table;

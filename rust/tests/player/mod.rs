@@ -1,8 +1,8 @@
-//! The player against request 1 written down independently (tests/papers/player.rs). Each start and step is made three times: by the C function, whose whole answer is
+//! The player against requests 1 and 3 written down independently (tests/papers/player.rs). Each start and step is made three times: by the C function, whose whole answer is
 //! compared, by the safe function over it, and by the hand port.
 
 use super::papers::player::{self as right, Told};
-use super::{random_setting, random_table};
+use super::{random_setting, random_table, table_of, OneIn};
 use hubplan::tables::{benchmark_tables, Sequence, Table};
 use hubplan::{player_port, port, Kind, Player, Receiver, Refusal, Stepped, PLAN_TAPE_BYTES, SPACE_BYTES};
 
@@ -113,19 +113,28 @@ fn plan_tape(table: &Table) -> Option<Vec<u8>> {
 #[test]
 fn every_first_tick_of_short_days() {
     let mut sequence = Sequence::new(800);
-    let (mut rounds, mut listens) = (0, 0);
+    let (mut rounds, mut listens, mut all_day) = (0, 0, 0);
+    let one_in = OneIn {
+        must: 1_000,
+        only: 4,
+        all_day: 4,
+    };
     for _ in 0..600 {
         let (rows, ticks) = (sequence.within(0, 12) as usize, sequence.within(2, 40));
         let longest = sequence.within(1, ticks);
-        let table = random_table(&mut sequence, rows, ticks, longest, 1_000, 4);
+        let table = random_table(&mut sequence, rows, ticks, longest, one_in);
         let Some(tape) = plan_tape(&table) else {
             continue;
         };
         compare_days(&tape, 0..table.ticks);
         rounds += u32::from(table.kind == Kind::Round);
         listens += tape.len() / 6 - 1;
+        all_day += commands(&tape).into_iter().filter(|command| is_all_day(command)).count();
     }
-    assert!(rounds > 200 && rounds < 400 && listens > 1_500, "{rounds} rounds, {listens} LISTENs");
+    assert!(
+        rounds > 200 && rounds < 400 && listens > 1_500 && all_day > 50,
+        "{rounds} rounds, {listens} LISTENs, {all_day} of them all day"
+    );
 }
 
 #[test]
@@ -162,16 +171,12 @@ fn longer_tables_at_some_ticks() {
     assert!(most > 8 + 6 * 40, "the longest tape has {most} bytes");
 }
 
-/// Small plan tapes: the session's, one of a run, windows that touch in a round, one of R 2, and one without LISTENs.
+/// Small plan tapes: the session's, one of a run, windows that touch in a round, one of R 2, one without LISTENs, one window that covers every tick beside two others, and two
+/// such windows.
 fn small_tapes() -> Vec<Vec<u8>> {
     let of = |kind: Kind, ticks: u16, windows: &[(u16, u16)]| {
-        let mut table = Table::empty(kind, ticks);
-        for &(start, end) in windows {
-            table.starts.push(start);
-            table.ends.push(end);
-            table.marks.push(0);
-        }
-        plan_tape(&table).expect("a plan")
+        let rows: Vec<(u16, u16, u8)> = windows.iter().map(|&(start, end)| (start, end, 0)).collect();
+        plan_tape(&table_of(kind, ticks, &rows)).expect("a plan")
     };
     let tapes = vec![
         of(Kind::Round, 100, &[(10, 30), (20, 40), (25, 50), (90, 10)]),
@@ -179,6 +184,8 @@ fn small_tapes() -> Vec<Vec<u8>> {
         of(Kind::Round, 10, &[(8, 2), (2, 8), (4, 6)]),
         of(Kind::Round, 2, &[(0, 1), (1, 0), (0, 1)]),
         of(Kind::Run([[0, 43_200]; 2]), 43_200, &[]),
+        of(Kind::Round, 10, &[(3, 3), (0, 2), (5, 8)]),
+        of(Kind::Round, 300, &[(299, 299), (0, 0), (7, 9)]),
     ];
     assert_eq!(tapes[0], SESSION);
     tapes
@@ -245,6 +252,11 @@ fn commands(tape: &[u8]) -> Vec<&[u8]> {
     commands
 }
 
+/// Whether a command is a LISTEN whose start is its end.
+fn is_all_day(command: &[u8]) -> bool {
+    command[0] == 0x30 && command[2..4] == command[4..6]
+}
+
 #[test]
 fn commands_left_out_doubled_or_exchanged() {
     let mut sequence = Sequence::new(835);
@@ -282,7 +294,7 @@ fn random_form(sequence: &mut Sequence) -> Vec<u8> {
                 let row = if sequence.one_in(8) { 62 } else { 0 } + sequence.within(0, 8);
                 let latest = if sequence.one_in(20) { ticks } else { ticks.saturating_sub(1) };
                 let start = sequence.within(0, latest);
-                let length = sequence.within(0, ticks / 4 + 1);
+                let length = if sequence.one_in(8) { 0 } else { sequence.within(0, ticks / 4 + 1) };
                 let end = if sequence.one_in(2) {
                     start + length
                 } else {
@@ -309,13 +321,23 @@ fn random_form(sequence: &mut Sequence) -> Vec<u8> {
 #[test]
 fn forms_with_any_rows_and_windows() {
     let mut sequence = Sequence::new(840);
-    let mut seen = [0; 14];
+    let (mut seen, mut all_day) = ([0; 14], [[0; 14]; 2]);
     for _ in 0..40_000 {
         let tape = random_form(&mut sequence);
         let first = sequence.within(0, 12) as u16;
-        seen[compare_any(&mut sequence, &tape, first) as usize] += 1;
+        let refusal = compare_any(&mut sequence, &tape, first) as usize;
+        seen[refusal] += 1;
+        if commands(&tape).into_iter().any(is_all_day) {
+            all_day[tape[0] as usize - 0x10][refusal] += 1;
+        }
     }
     assert!(seen[0] > 2_000 && seen[12] > 10_000 && seen[13] > 500, "{seen:?}");
+    let [round, run] = all_day;
+    assert!(
+        round[0] > 500 && round[12] > 2_000 && round[13] > 100,
+        "tapes of a round with LISTEN s s: {round:?}"
+    );
+    assert!(run[12] > 2_000 && run[0] + run[13] == 0, "tapes of a run with LISTEN s s: {run:?}");
 }
 
 #[test]
@@ -365,6 +387,44 @@ fn first_ticks_and_the_order_of_refusals() {
         compare_step(&tape, 65_535, None, 65_535);
         compare_step(&[0x10, 0xff, 0xff, 0x20, 0x01, 0x20, 0x02, 0x7f], 65_535, None, 65_535);
         compare_step(&[0x11, 0xff, 0xff, 0x20, 0x01, 0x20, 0x02, 0x7f], 65_535, None, 65_535);
+    }
+}
+
+/// LISTEN s s as the only one of a round: written, read back and played for two days. "As the tick until which it listens the player gives the window's end", at every tick,
+/// the end itself included.
+#[test]
+fn the_end_is_told_all_day() {
+    for (ticks, s) in [(2, 0), (2, 1), (10, 0), (10, 7), (10, 9), (43_200, 0), (43_200, 43_199)] {
+        let tape = plan_tape(&table_of(Kind::Round, ticks, &[(s, s, 0)])).expect("a plan");
+        let ([a, b], [c, d]) = (ticks.to_be_bytes(), s.to_be_bytes());
+        assert_eq!(tape, [0x10, a, b, 0x20, 1, 0x30, 0, c, d, c, d, 0x20, 2, 0x7f]);
+        for n in 0..2 * ticks as u32 {
+            let tick = |n: u32| (n % ticks as u32) as u16;
+            compare_step(&tape, tick(n), Some([Some((0, s)), None]), tick(n + 1));
+        }
+        compare_days(&tape, [s, 0, ticks - 1].into_iter());
+    }
+}
+
+/// LISTEN s s with s from 0 to R, as the only one of a tape: 12 at R and above in a round, and in a run always. A step passes over a window that breaks the rules.
+#[test]
+fn listen_s_s_in_rounds_and_runs() {
+    for command in [0x10, 0x11] {
+        for s in [0, 4, 9, 10, 11, 255] {
+            let taken = command == 0x10 && s < 10;
+            let tape = [command, 0, 10, 0x20, 1, 0x20, 2, 0x30, 63, 0, s, 0, s, 0x7f];
+            compare_start(&tape, 4, if taken { (0, 4) } else { (12, 65_535) });
+            let told = if taken { Some((63, s as u16)) } else { None };
+            compare_step(&tape, 4, Some([None, told]), 5);
+            // beside another of the same receiver, before it or after it, it overlaps
+            let listen = [0x30, 5, 0, 6, 0, 7];
+            for beside in [[&tape[..7], &listen, &tape[7..]].concat(), [&tape[..13], &listen, &tape[13..]].concat()] {
+                compare_start(&beside, 4, (12, 65_535));
+            }
+            // and not beside one of the other
+            let other = [&tape[..5], &listen, &tape[5..]].concat();
+            compare_start(&other, 4, if taken { (0, 4) } else { (12, 65_535) });
+        }
     }
 }
 
