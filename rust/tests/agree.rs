@@ -208,7 +208,12 @@ fn larger_tables_against_the_search() {
         let table = random_setting(&mut sequence, rows);
         let right = right_plan(&table, rows, SPACE_BYTES);
         if right.0 == 0 {
-            assert!(papers::is_plan(&papers::RULES, &table, &papers::overlaps(&table), &right.2));
+            assert!(papers::is_plan(
+                &papers::RULES,
+                &table,
+                &papers::overlaps(&papers::RULES, &table),
+                &right.2
+            ));
         }
         none += u32::from(compare_plan(hubplan::plan, &table, rows, SPACE_BYTES, &right) == 8);
         compare_plan(port::plan, &table, rows, SPACE_BYTES, &right);
@@ -255,7 +260,7 @@ fn the_old_planner_gives_plans() {
         match first_free::plan(table.kind, table.ticks, &table.starts, &table.ends, &table.marks, &mut labels) {
             Ok(count) => {
                 assert!(
-                    papers::is_plan(&papers::RULES, &table, &papers::overlaps(&table), &labels),
+                    papers::is_plan(&papers::RULES, &table, &papers::overlaps(&papers::RULES, &table), &labels),
                     "{table:?} {labels:?}"
                 );
                 assert!(count == papers::heard(&labels) && count <= right.1, "{table:?} {labels:?}");

@@ -11,12 +11,11 @@ use Rattle.window.proofs.AllDay.{all-day-ticks}
 use Rattle.arcs.specs.Arcs.{Meet}
 use Rattle.arcs.proofs.Meets.{meets, meets-iff}
 use Rattle.table.specs.declared.Setting.{Setting}
-use Rattle.table.specs.Tables.{ValidRow}
 use Rattle.best_plan.specs.Rows.{circleOf, arcOf}
 
-pub all-day-arc : (S : Setting) (row : Row) → S .kind ≡ Round → ValidRow S row → row .start ≡ row .end → arcOf S row .length ≡ circleOf S
+pub all-day-arc : (S : Setting) (row : Row) → S .kind ≡ Round → row .start ≡ row .end → arcOf S row .length ≡ circleOf S
 unfolding arcOf
-all-day-arc S row k v q = rw (k, ← q) (all-day-ticks (S .ticks) (row .start) (rw k at (v .window) .0))
+all-day-arc S row k q = rw (k, ← q) (all-day-ticks (S .ticks) (row .start))
 
 -- every start lies fewer than C ticks after any other
 pub whole-meets : (C s s′ n : ℕ) → s < C → s′ < C → 1 ≤ n → n ≤ C → Meet C s C s′ n

@@ -25,16 +25,16 @@ module _ (R s : ℕ) (h : s < R) where
       go (pass m) = late (omega arith) m
       go (fail m) = early (omega arith) m
 
-  -- R of them: the end lies at a distance of 0, and the window's length is R
-  pub all-day-ticks : ticksIn Round R s s ≡ R
-  unfolding ticksIn
-  all-day-ticks = rw (eq-eqb s s refl) refl
-
   -- "Such a window overlaps every other."
   pub all-day-overlaps : (s′ e′ : ℕ) → Window Round R s′ e′ → Overlap Round R s s s′ e′
   all-day-overlaps s′ e′ w = record { tick = s′; below = w .0; in-first = all-day-covers s′ (w .0); in-second = covers-start Round R s′ e′ w }
 
--- and no other window covers every tick: its own end is not covered
+-- R of them: the end lies at a distance of 0, and the window's length is R
+pub all-day-ticks : (R s : ℕ) → ticksIn Round R s s ≡ R
+unfolding ticksIn
+all-day-ticks R s = rw (eq-eqb s s refl) refl
+
+-- No other window covers every tick: its own end is not covered
 pub all-day-only : (R s e : ℕ) → Window Round R s e → ((t : ℕ) → t < R → Covers Round R s e t) → s ≡ e
 all-day-only R s e w f = go (covers-in s e e (covers-iff Round R s e w e (w .1) .1 (f e (w .1))))
   where
@@ -69,7 +69,9 @@ module _ (kind : Kind) (R s e : ℕ) (d : s ≢ e) where
       go Run = refl
 
 pub overlap-kept-3 : (kind : Kind) (R s e s′ e′ : ℕ) → s ≢ e → s′ ≢ e′ → Overlap kind R s e s′ e′ ↔ OverlapBefore3 kind R s e s′ e′
-overlap-kept-3 kind R s e s′ e′ d d′ = (
-  λ o. record { tick = o .tick; below = o .below; in-first = covers-kept-3 kind R s e d (o .tick) .0 (o .in-first); in-second = covers-kept-3 kind R s′ e′ d′ (o .tick) .0 (o .in-second) },
-  λ o. record { tick = o .tick; below = o .below; in-first = covers-kept-3 kind R s e d (o .tick) .1 (o .in-first); in-second = covers-kept-3 kind R s′ e′ d′ (o .tick) .1 (o .in-second) },
-)
+overlap-kept-3 kind R s e s′ e′ d d′ =
+    let first = covers-kept-3 kind R s e d in
+    let second = covers-kept-3 kind R s′ e′ d′ in (
+      λ o. record { tick = o .tick; below = o .below; in-first = first (o .tick) .0 (o .in-first); in-second = second (o .tick) .0 (o .in-second) },
+      λ o. record { tick = o .tick; below = o .below; in-first = first (o .tick) .1 (o .in-first); in-second = second (o .tick) .1 (o .in-second) },
+    )

@@ -3,9 +3,11 @@
 
 use super::{allowed, in_hours, window_holds, Rules, RULES};
 use hubplan::tables::Table;
+use hubplan::Kind;
 
-/// Request 3 changed check 6 alone: what a window covers whose start and end differ is as it was.
+/// What a window covers and check 6: request 3 changed no more.
 pub const BEFORE_3: Rules = Rules {
+    ticks_of: ticks_to_end,
     window_holds: window_differs,
     highest_mark: RULES.highest_mark,
     allowed,
@@ -13,10 +15,22 @@ pub const BEFORE_3: Rules = Rules {
 
 /// "7: a mark above 1."
 pub const BEFORE_2: Rules = Rules {
+    ticks_of: ticks_to_end,
     window_holds: window_differs,
     highest_mark: 1,
     allowed: allowed_before_2,
 };
+
+/// "Start, start+1 and so on, going from R−1 to 0, up to the tick before end": the walk looks for the end from the start on, so that start equal to end covers nothing.
+fn ticks_to_end(kind: Kind, ticks: u16, start: u16, end: u16) -> Vec<u64> {
+    let mut set = vec![0u64; ticks.div_ceil(64) as usize];
+    let mut tick = start;
+    while tick != end {
+        set[tick as usize / 64] |= 1 << (tick % 64);
+        tick = if kind == Kind::Round && tick + 1 == ticks { 0 } else { tick + 1 };
+    }
+    set
+}
 
 /// "A start equal to its end is an empty window and is refused."
 fn window_differs(table: &Table, i: usize) -> bool {

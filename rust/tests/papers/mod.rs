@@ -28,16 +28,17 @@ fn ticks_of(kind: Kind, ticks: u16, start: u16, end: u16) -> Vec<u64> {
 }
 
 /// For each two rows, whether some tick lies in both windows.
-pub fn overlaps(table: &Table) -> Vec<Vec<bool>> {
+pub fn overlaps(rules: &Rules, table: &Table) -> Vec<Vec<bool>> {
     let sets: Vec<Vec<u64>> = (0..table.rows())
-        .map(|i| ticks_of(table.kind, table.ticks, table.starts[i], table.ends[i]))
+        .map(|i| (rules.ticks_of)(table.kind, table.ticks, table.starts[i], table.ends[i]))
         .collect();
     let meet = |a: &Vec<u64>, b: &Vec<u64>| a.iter().zip(b).any(|(x, y)| x & y != 0);
     sets.iter().map(|a| sets.iter().map(|b| meet(a, b)).collect()).collect()
 }
 
-/// What requests 2 and 3 changed: whether a row's window passes check 6, the highest mark that is not refused, and which labels a row of a table may have, other rows aside.
+/// What requests 2 and 3 changed: the ticks of a window, whether a row's window passes check 6, the highest mark that is not refused, and which labels a row of a table may have, other rows aside.
 pub struct Rules {
+    ticks_of: fn(Kind, u16, u16, u16) -> Vec<u64>,
     window_holds: fn(&Table, usize) -> bool,
     highest_mark: u8,
     allowed: fn(&Table, usize, u8) -> bool,
@@ -45,6 +46,7 @@ pub struct Rules {
 
 /// "Refusal 7 now begins at mark 6."
 pub const RULES: Rules = Rules {
+    ticks_of,
     window_holds,
     highest_mark: 5,
     allowed,
@@ -145,7 +147,7 @@ fn comes_before(a: &[u8], b: &[u8]) -> bool {
 
 /// The right plan by trying every list of labels.
 pub fn plan_by_trying(rules: &Rules, table: &Table) -> Option<Vec<u8>> {
-    let meet = overlaps(table);
+    let meet = overlaps(rules, table);
     let mut best: Option<Vec<u8>> = None;
     let mut labels = vec![0u8; table.rows()];
     loop {
@@ -298,7 +300,7 @@ pub fn written(rules: &Rules, table: &Table, labels: &[u8], buffer: &[u8]) -> (u
     if refusal == 0 {
         refusal = table_refusal(rules, table);
     }
-    if refusal == 0 && !is_plan(rules, table, &overlaps(table), labels) {
+    if refusal == 0 && !is_plan(rules, table, &overlaps(rules, table), labels) {
         refusal = 9;
     }
     if refusal == 0 && buffer.len() < 8 + 6 * heard(labels) {

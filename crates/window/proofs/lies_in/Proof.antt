@@ -1,5 +1,6 @@
 -- `window::lies_in` meets its contract: each way through its code is a way to compute `liesIn`.
 use mathlib.Core.Path.{sym, _∙_}
+use native.Mathlib.Omega.{arith}
 use borrow.Author.Needs.{needs}
 use borrow.Author.Tests.{le-ltb, lt-ltb, not-true, not-false}
 use Rattle.window.specs.Windows.{liesIn}
@@ -17,8 +18,9 @@ returns c = lies-said _ _ _ _ _ (rw (sym (c .before .is-window .ensures) ∙ not
 returns-2 : tie.Need-returns-2
 unfolding liesIn
 returns-2 c =
+    let a = c .before .before .before .args in
     lies-said _ _ _ _ _
-    (rw (sym (c .before .before .is-window .ensures) ∙ not-false _ (c .before .if1 .left), le-ltb _ _ (c .if2 .taken)))
+    (rw (sym (c .before .before .is-window .ensures) ∙ not-false _ (c .before .if1 .left), le-ltb (a .tick) (a .ticks) (omega (arith, c .if2 .taken))))
 
 distance-requires : tie.Need-distance-requires
 distance-requires c κs =
