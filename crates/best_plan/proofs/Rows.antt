@@ -1,8 +1,8 @@
 -- From paper to core: a list of labels is a plan of a checked table exactly if it is an assignment of its arcs and permissions. Run and round together.
-use Prim.Native.Nat.{ℕ, _≤_, _<_}
-use mathlib.Core.Path.{_≡_, sym, ap₂, _∙_}
+use Prim.Native.Nat.{ℕ, _+_, _≤_, _<_}
+use mathlib.Core.Path.{_≡_, sym, _∙_}
 use mathlib.Core.Logic.{_≢_, _↔_}
-use mathlib.Core.Bool.{true, _||_}
+use mathlib.Core.Bool.{true}
 use mathlib.Core.List.{List}
 use native.Mathlib.Omega.{arith}
 use lib.ListN.{length}
@@ -11,38 +11,19 @@ use Rattle.basics.proofs.Filling.{Filled}
 use Rattle.labels.specs.Permission.{permits}
 use Rattle.labels.proofs.Permissions.{made-iff}
 use Rattle.labels.proofs.Best.{assignment-iff}
-use Rattle.window.specs.declared.Kind.{Kind}
 use Rattle.window.specs.declared.Row.{Row}
-use Rattle.window.specs.Windows.{Window, Overlap, ticksIn, overlaps}
-use Rattle.window.proofs.Meaning.{window-start, overlaps-iff, ticks-some, ticks-most, covers-near}
+use Rattle.window.specs.Windows.{ticksIn}
+use Rattle.window.proofs.Meaning.{window-start}
 use Rattle.arcs.specs.Arcs.{Meet, Arcs, Assigned}
-use Rattle.arcs.proofs.Meets.{meets, meets-iff}
 use Rattle.table.specs.declared.Setting.{Setting}
 use Rattle.table.specs.Tables.{Table, rows, rowAt, Allowed, Clash, Plan, ValidSetting, ValidRow, Valid, isAllowed}
 use Rattle.table.proofs.Plans.{allowed-iff}
+use Rattle.best_plan.proofs.Reach.{circle-least, cut-most, arc-some, close-iff}
 use Rattle.best_plan.specs.Rows.{circleOf, arcOf, permissionOf, ArcLists, ArcsOf}
-
--- two windows overlap exactly if the arcs of their ticks meet
-overlap-iff : (kind : Kind) (R s e s′ e′ : ℕ) → Window kind R s e → Window kind R s′ e′
-    → Overlap kind R s e s′ e′ ↔ Meet R s (ticksIn kind R s e) s′ (ticksIn kind R s′ e′)
-unfolding overlaps meets
-overlap-iff kind R s e s′ e′ v w =
-    let f = overlaps-iff kind R s e s′ e′ v w in
-    let g = meets-iff R s n s′ n′ (window-start kind R s e v) (window-start kind R s′ e′ w) (ticks-some kind R s e v) (ticks-most kind R s e v) (ticks-some kind R s′ e′ w) (ticks-most kind R s′ e′ w) in
-    (λ o. g .0 (sym same ∙ f .1 o), λ m. f .0 (same ∙ g .1 m))
-  where
-    n : ℕ
-    n = ticksIn kind R s e
-
-    n′ : ℕ
-    n′ = ticksIn kind R s′ e′
-
-    same : overlaps s e s′ e′ ≡ meets R s n s′ n′
-    same = ap₂ _||_ (covers-near kind R s e v s′ (window-start kind R s′ e′ w)) (covers-near kind R s′ e′ w s (window-start kind R s e v))
 
 module _ (S : Setting) where
   pub circle-some : ValidSetting S → 1 ≤ circleOf S
-  circle-some v = omega (arith, v .ticks-least)
+  circle-some v = omega (arith, v .ticks-least, circle-least (S .kind) (S .ticks))
 
   module _ (row : Row) where
     pub permission-iff : (x : ℕ) → Allowed S row x ↔ (permits (permissionOf S row) x ≡ true)
@@ -55,21 +36,21 @@ module _ (S : Setting) where
     module _ (v : ValidRow S row) where
       pub arc-start : arcOf S row .start < circleOf S
       unfolding arcOf
-      arc-start = window-start (S .kind) (S .ticks) (row .start) (row .end) (v .window)
+      arc-start = omega (arith, window-start (S .kind) (S .ticks) (row .start) (row .end) (v .window), circle-least (S .kind) (S .ticks))
 
-      pub arc-some : 1 ≤ arcOf S row .length
+      pub arc-proper : 1 ≤ arcOf S row .length
       unfolding arcOf
-      arc-some = ticks-some (S .kind) (S .ticks) (row .start) (row .end) (v .window)
+      arc-proper = arc-some (S .kind) (S .ticks) (S .gap) (row .start) (row .end) (v .window)
 
       pub arc-most : arcOf S row .length ≤ circleOf S
       unfolding arcOf
-      arc-most = ticks-most (S .kind) (S .ticks) (row .start) (row .end) (v .window)
+      arc-most = cut-most (circleOf S) (ticksIn (S .kind) (S .ticks) (row .start) (row .end) + S .gap)
 
   -- TWO ROWS CLASH EXACTLY IF THEIR ARCS MEET
-  pub clash-iff : (row row′ : Row) → ValidRow S row → ValidRow S row′
+  pub clash-iff : (row row′ : Row) → ValidSetting S → ValidRow S row → ValidRow S row′
       → Clash S row row′ ↔ Meet (circleOf S) (arcOf S row .start) (arcOf S row .length) (arcOf S row′ .start) (arcOf S row′ .length)
   unfolding arcOf
-  clash-iff row row′ v w = overlap-iff (S .kind) (S .ticks) (row .start) (row .end) (row′ .start) (row′ .end) (v .window) (w .window)
+  clash-iff row row′ h v w = close-iff (S .kind) (S .ticks) (S .gap) (row .start) (row .end) (row′ .start) (row′ .end) (h .gap-most) (v .window) (w .window)
 
 -- ---- the table
 
@@ -84,7 +65,7 @@ module _ (t : Table) (valid : Valid t) {starts lengths perms : List ℕ} (arcs :
         few = omega (arith, valid .few, arcs .lists .each-start);
         each = arcs .lists .each-length ∙ sym (arcs .lists .each-start);
         start = λ i h. let k = within i h in rw (arcs .start i k) (arc-start S (rowAt t i) (valid .row i k));
-        proper = λ i h. let k = within i h in rw (arcs .ticks i k) (arc-some S (rowAt t i) (valid .row i k));
+        proper = λ i h. let k = within i h in rw (arcs .ticks i k) (arc-proper S (rowAt t i) (valid .row i k));
         whole = λ i h. let k = within i h in rw (arcs .ticks i k) (arc-most S (rowAt t i) (valid .row i k));
       }
     where
@@ -101,7 +82,7 @@ module _ (t : Table) (valid : Valid t) {starts lengths perms : List ℕ} (arcs :
       clashes : (i j : ℕ) → i < rows t → j < rows t → i ≢ j → Clash S (rowAt t i) (rowAt t j) ↔ Meet (circleOf S) (at starts i) (at lengths i) (at starts j) (at lengths j)
       clashes i j h k d =
           rw (arcs .start i h, arcs .ticks i h, arcs .start j k, arcs .ticks j k)
-          (clash-iff S (rowAt t i) (rowAt t j) (valid .row i h) (valid .row j k))
+          (clash-iff S (rowAt t i) (rowAt t j) (valid .setting) (valid .row i h) (valid .row j k))
 
 -- ---- the loop that writes arcs and permissions
 

@@ -1,27 +1,45 @@
--- Inner: The rows of a checked table as arcs of a circle and permissions: a row's window is the arc of its ticks, and its permission has the labels that a plan allows it.
-use Prim.Native.Nat.{ℕ, suc, _≤_, _<_}
+-- Inner: The rows of a checked table as arcs of a circle and permissions: a row's arc has the ticks of its window and of the gap after it, and its permission the labels that a plan allows it.
+use Prim.Native.Nat.{ℕ, suc, _+_, _≤_, _<_}
 use mathlib.Core.Path.{_≡_}
+use mathlib.Core.Bool.{cond}
 use mathlib.Core.List.{List}
 use mathlib.Core.Option.{Option, none, some}
+use lib.Dec.{leb}
 use lib.ListN.{length}
 use Rattle.line.specs.Cells.{coreBytes}
 use Rattle.basics.specs.Lists.{at}
 use Rattle.labels.specs.Labels.{heard}
 use Rattle.labels.specs.Permission.{permission}
+use Rattle.window.specs.declared.Kind.{Kind}
+use Rattle.window.specs.declared.Kind.the-variants.{Round, Run}
 use Rattle.window.specs.declared.Row.{Row}
 use Rattle.window.specs.Windows.{ticksIn}
+use Rattle.window.specs.Gaps.{maxGap}
 use Rattle.table.specs.declared.Setting.{Setting}
-use Rattle.table.specs.Tables.{Table, rows, rowAt, isAllowed, Valid}
+use Rattle.table.specs.Tables.{Table, rows, rowAt, isAllowed, ValidSetting, ValidRow, Valid}
 use Rattle.best_plan.specs.declared.Arc.{Arc}
 
--- the ticks of the circle: a run is a circle that no window crosses
-abbrev pub circleOf : Setting → ℕ
-circleOf S = S .ticks
+-- The ticks of the circle. A run is a circle that no arc crosses: the longest gap fits between its last tick and its first, so that the gap of the last window does not reach the first.
+unfoldable pub circleTicks : Kind → ℕ → ℕ
+circleTicks Round R = R
+circleTicks Run R = R + maxGap
 
--- the ticks that the row's window covers
+abbrev pub circleOf : Setting → ℕ
+circleOf S = circleTicks (S .kind) (S .ticks)
+
+-- an arc of so many ticks, cut off at the circle
+unfoldable pub cutOff : ℕ → ℕ → ℕ
+cutOff C n = cond (leb n C) n C
+
+-- the ticks that the row's window covers, and g more
 unfoldable pub arcOf : Setting → Row → Arc
-unfolding ticksIn
-arcOf S row = record { start = row .start; length = ticksIn (S .kind) (S .ticks) (row .start) (row .end) }
+unfolding circleTicks cutOff ticksIn
+arcOf S row = record { start = row .start; length = cutOff (circleOf S) (ticksIn (S .kind) (S .ticks) (row .start) (row .end) + S .gap) }
+
+-- what working out an arc is lent: a setting and a row that have passed their checks
+pub record HasArc (S : Setting) (row : Row) : Type 0 where
+  pub setting : ValidSetting S
+  pub valid : ValidRow S row
 
 -- the labels that the row may have
 unfoldable pub permissionOf : Setting → Row → ℕ

@@ -5,13 +5,15 @@ ghost use Prim.Native.Nat.{_≤_};
 ghost use lib.ListN.{length, drop, replicate};
 ghost use Rattle.labels.specs.Permission.{labelOf};
 ghost use Rattle.line.specs.Cells.{coreBytes};
-ghost use Rattle.table.specs.Tables.{table, Valid, ValidRow};
+ghost use Rattle.table.specs.Tables.{table, Valid, ValidSetting};
 ghost use Rattle.table.specs.Planned.{spaceBytes, bestPlan, answering, given};
-ghost use Rattle.best_plan.specs.Rows.{circleOf, arcOf, permissionOf, ArcLists, ArcsOf, Checked, Countable, countOf};
+ghost use Rattle.best_plan.specs.Rows.{circleOf, cutOff, arcOf, HasArc, permissionOf, ArcLists, ArcsOf, Checked, Countable, countOf};
 use basics::MAX_ROWS;
 use refusals::Answer;
 use refusals::Refusal;
 use table::Setting;
+use window::Kind;
+use window::MAX_GAP;
 use window::Row;
 
 // The working space that a call needs and clears, in bytes.
@@ -23,21 +25,38 @@ pub struct Arc {
     pub length: u16,
 }
 
-// The ticks of the circle on which a table's rows are arcs.
+// The ticks of the circle on which a table's rows are arcs. R is at most 43,200, so that the sum, at most 43,800, fits 16 bits.
 fn circle_of(setting: Setting) -> u16
+    requires { ⌜ ValidSetting setting ⌝ }
     ensures { λ r. ⌜ r ≡ circleOf setting ⌝ }
 {
-    setting.ticks
+    let kind = setting.kind;
+    match kind {
+        Kind::Round => setting.ticks,
+        Kind::Run => setting.ticks + MAX_GAP,
+    }
 }
 
-// The arc of a row.
+// An arc's length, cut off at the circle.
+fn cut_off(circle: u16, length: u16) -> u16
+    ensures { λ r. ⌜ r ≡ cutOff circle length ⌝ }
+{
+    if length <= circle {
+        return length;
+    }
+    circle
+}
+
+// The arc of a row. A window has at most R ticks and R is at most 43,200; the gap is at most 600: the sum, at most 43,800, fits 16 bits.
 fn arc_of(setting: Setting, row: Row) -> Arc
-    requires { ⌜ ValidRow setting row ⌝ }
+    requires { ⌜ HasArc setting row ⌝ }
     ensures { λ r. ⌜ r ≡ arcOf setting row ⌝ }
 {
     let kind = setting.kind;
     let start = row.start;
-    let length = window::ticks_in(kind, setting.ticks, start, row.end);
+    let ticks = window::ticks_in(kind, setting.ticks, start, row.end);
+    let circle = circle_of(setting);
+    let length = cut_off(circle, ticks + setting.gap);
     Arc { start, length }
 }
 

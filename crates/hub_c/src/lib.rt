@@ -79,18 +79,18 @@ fn hand_over(answer: Answer) -> HubAnswer
     }
 }
 
-// The setting of a round, in which hours are neither checked nor used.
-fn round_setting(ticks: u16) -> Setting
-    ensures { λ r. ⌜ r ≡ settingOf Round ticks noHours ⌝ }
+// The setting of a round with a gap, in which hours are neither checked nor used.
+fn round_setting(ticks: u16, gap: u16) -> Setting
+    ensures { λ r. ⌜ r ≡ settingOf Round ticks gap noHours ⌝ }
 {
-    table::setting_of(Kind::Round, ticks, [[0, 0], [0, 0]])
+    table::setting_of(Kind::Round, ticks, gap, [[0, 0], [0, 0]])
 }
 
-// The setting of a run in which receiver 1 is open from p1 to q1 and receiver 2 from p2 to q2.
-fn run_setting(ticks: u16, p1: u16, q1: u16, p2: u16, q2: u16) -> Setting
-    ensures { λ r. ⌜ r ≡ settingOf Run ticks (hoursFrom p1 q1 p2 q2) ⌝ }
+// The setting of a run with a gap in which receiver 1 is open from p1 to q1 and receiver 2 from p2 to q2.
+fn run_setting(ticks: u16, gap: u16, p1: u16, q1: u16, p2: u16, q2: u16) -> Setting
+    ensures { λ r. ⌜ r ≡ settingOf Run ticks gap (hoursFrom p1 q1 p2 q2) ⌝ }
 {
-    table::setting_of(Kind::Run, ticks, [[p1, q1], [p2, q2]])
+    table::setting_of(Kind::Run, ticks, gap, [[p1, q1], [p2, q2]])
 }
 
 // Plans a round or a run.
@@ -108,26 +108,28 @@ fn plan(
     hand_over(answer)
 }
 
-// Plans a round.
+// Plans a round with a gap.
 #[no_mangle]
 pub extern "C" fn hub_plan_round(
     ticks: u16,
+    gap: u16,
     starts: &[u16],
     ends: &[u16],
     marks: &[u8],
     labels: &mut [u8],
     space: &mut [u8],
 ) -> HubAnswer
-    ensures { λ r. ⌜ planGave r (now (labels .exit)) (now (space .exit)) ≡ handedPlan (planCall (table (settingOf Round ticks noHours) (now (starts .entry)) (now (ends .entry)) (now (marks .entry))) (now (labels .entry)) (now (space .entry))) ⌝ }
+    ensures { λ r. ⌜ planGave r (now (labels .exit)) (now (space .exit)) ≡ handedPlan (planCall (table (settingOf Round ticks gap noHours) (now (starts .entry)) (now (ends .entry)) (now (marks .entry))) (now (labels .entry)) (now (space .entry))) ⌝ }
 {
-    let setting = round_setting(ticks);
+    let setting = round_setting(ticks, gap);
     plan(setting, starts, ends, marks, labels, space)
 }
 
-// Plans a run in which receiver 1 is open from p1 to q1 and receiver 2 from p2 to q2.
+// Plans a run with a gap in which receiver 1 is open from p1 to q1 and receiver 2 from p2 to q2.
 #[no_mangle]
 pub extern "C" fn hub_plan_run(
     ticks: u16,
+    gap: u16,
     p1: u16,
     q1: u16,
     p2: u16,
@@ -138,9 +140,9 @@ pub extern "C" fn hub_plan_run(
     labels: &mut [u8],
     space: &mut [u8],
 ) -> HubAnswer
-    ensures { λ r. ⌜ planGave r (now (labels .exit)) (now (space .exit)) ≡ handedPlan (planCall (table (settingOf Run ticks (hoursFrom p1 q1 p2 q2)) (now (starts .entry)) (now (ends .entry)) (now (marks .entry))) (now (labels .entry)) (now (space .entry))) ⌝ }
+    ensures { λ r. ⌜ planGave r (now (labels .exit)) (now (space .exit)) ≡ handedPlan (planCall (table (settingOf Run ticks gap (hoursFrom p1 q1 p2 q2)) (now (starts .entry)) (now (ends .entry)) (now (marks .entry))) (now (labels .entry)) (now (space .entry))) ⌝ }
 {
-    let setting = run_setting(ticks, p1, q1, p2, q2);
+    let setting = run_setting(ticks, gap, p1, q1, p2, q2);
     plan(setting, starts, ends, marks, labels, space)
 }
 
@@ -159,26 +161,28 @@ fn write_plan(
     hand_over(answer)
 }
 
-// Writes the plan tape of a round and labels to the front of the buffer `tape`; its count is the tape's length.
+// Writes the plan tape of a round with a gap and labels to the front of the buffer `tape`; its count is the tape's length.
 #[no_mangle]
 pub extern "C" fn hub_write_plan_round(
     ticks: u16,
+    gap: u16,
     starts: &[u16],
     ends: &[u16],
     marks: &[u8],
     labels: &[u8],
     tape: &mut [u8],
 ) -> HubAnswer
-    ensures { λ r. ⌜ tapeGave r (now (tape .exit)) ≡ handedTape (written (table (settingOf Round ticks noHours) (now (starts .entry)) (now (ends .entry)) (now (marks .entry))) (now (labels .entry)) (now (tape .entry))) ⌝ }
+    ensures { λ r. ⌜ tapeGave r (now (tape .exit)) ≡ handedTape (written (table (settingOf Round ticks gap noHours) (now (starts .entry)) (now (ends .entry)) (now (marks .entry))) (now (labels .entry)) (now (tape .entry))) ⌝ }
 {
-    let setting = round_setting(ticks);
+    let setting = round_setting(ticks, gap);
     write_plan(setting, starts, ends, marks, labels, tape)
 }
 
-// Writes the plan tape of a run, with the hours of its receivers, and labels to the front of the buffer `tape`; its count is the tape's length.
+// Writes the plan tape of a run with a gap, with the hours of its receivers, and labels to the front of the buffer `tape`; its count is the tape's length.
 #[no_mangle]
 pub extern "C" fn hub_write_plan_run(
     ticks: u16,
+    gap: u16,
     p1: u16,
     q1: u16,
     p2: u16,
@@ -189,9 +193,9 @@ pub extern "C" fn hub_write_plan_run(
     labels: &[u8],
     tape: &mut [u8],
 ) -> HubAnswer
-    ensures { λ r. ⌜ tapeGave r (now (tape .exit)) ≡ handedTape (written (table (settingOf Run ticks (hoursFrom p1 q1 p2 q2)) (now (starts .entry)) (now (ends .entry)) (now (marks .entry))) (now (labels .entry)) (now (tape .entry))) ⌝ }
+    ensures { λ r. ⌜ tapeGave r (now (tape .exit)) ≡ handedTape (written (table (settingOf Run ticks gap (hoursFrom p1 q1 p2 q2)) (now (starts .entry)) (now (ends .entry)) (now (marks .entry))) (now (labels .entry)) (now (tape .entry))) ⌝ }
 {
-    let setting = run_setting(ticks, p1, q1, p2, q2);
+    let setting = run_setting(ticks, gap, p1, q1, p2, q2);
     write_plan(setting, starts, ends, marks, labels, tape)
 }
 

@@ -9,4 +9,5 @@ pub mod Made
 pub mod Places
 pub mod Witness
 pub mod Taken
+pub mod Request4
 pub mod Sample

@@ -1,4 +1,4 @@
--- A tape that the writer makes passes the test of a plan tape.
+-- A tape that the writer makes, with any gap and any hours, passes the test of a plan tape.
 use Prim.Native.Nat.{ℕ, _+_, _≤_, _<_}
 use mathlib.Core.Path.{_≡_, sym, ap, _∙_}
 use mathlib.Core.Bool.{true}
@@ -7,6 +7,7 @@ use native.Mathlib.Omega.{arith}
 use lib.ListN.{length, take}
 use Rattle.basics.specs.Lists.{at}
 use Rattle.window.specs.declared.Kind.{Kind}
+use Rattle.window.specs.Gaps.{overlap}
 use Rattle.refusals.specs.declared.Refusal.the-variants.{Accepted}
 use Rattle.table.specs.Tables.{Table, Valid, Plan}
 use Rattle.plan_tape.specs.PlanTapes.{rowsOf}
@@ -51,7 +52,7 @@ module _ (t : Table) (labels : List ℕ) (valid : Valid t) (plan : Plan t labels
           apart = λ w w′ m m′ d o.
               let h = hears w m in
               let h′ = hears w′ m′ in
-              plan .apart (w .row) (w′ .row) (below w m) (below w′ m′) d (λ z. omega (arith, h .0)) (h .0 ∙ sym (h′ .0)) (rw (h .1, h .2, h′ .1, h′ .2) at o);
+              plan .apart (w .row) (w′ .row) (below w m) (below w′ m′) d (λ z. omega (arith, h .0)) (h .0 ∙ sym (h′ .0)) (overlap (rw (h .1, h .2, h′ .1, h′ .2) at o));
           once = λ w w′ m m′ e.
               let h = hears w m in
               let h′ = hears w′ m′ in

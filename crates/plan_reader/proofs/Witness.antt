@@ -9,6 +9,7 @@ use Rattle.basics.specs.Limits.{maxRows}
 use Rattle.basics.specs.Lists.{at}
 use Rattle.window.specs.Hours.{hoursFrom}
 use Rattle.window.proofs.Meaning.{window-end}
+use Rattle.window.proofs.Gaps.{too-close-0}
 use Rattle.table.specs.Tables.{settingOf, Table, table, rowAt, Plan, Valid}
 use Rattle.table.proofs.Plans.{unmarked}
 use Rattle.plan_tape.specs.PlanTapes.{rowsOf}
@@ -47,11 +48,15 @@ module _ (s : Stated) where
   pub ends : List ℕ
   ends = tabled (λ i. endAt (place s i)) maxRows
 
+  -- no row must be heard, and any receiver may hear it
+  pub marks : List ℕ
+  marks = tabled (λ i. 0) maxRows
+
   pub labels : List ℕ
   labels = tabled (λ i. labelAt (place s i)) maxRows
 
   unfoldable pub witness : Table
-  witness = table (settingOf (s .kind) (s .ticks) (hoursFrom 0 (s .ticks) 0 (s .ticks))) starts ends (tabled (λ i. 0) maxRows)
+  witness = table (settingOf (s .kind) (s .ticks) 0 (hoursFrom 0 (s .ticks) 0 (s .ticks))) starts ends marks
 
   each-start : length starts ≡ maxRows
   unfolding starts
@@ -76,13 +81,13 @@ module _ (s : Stated) where
 
   module _ (J : Judged s) where
     pub witness-valid : Valid witness
-    unfolding witness ends
+    unfolding witness ends marks
     witness-valid =
         record {
           few = omega (arith, each-start);
           each-end = tabled-length (λ i. endAt (place s i)) maxRows ∙ sym each-start;
           each-mark = tabled-length (λ i. 0) maxRows ∙ sym each-start;
-          setting = record { ticks-least = J .ticks-least; ticks-most = J .ticks-most };
+          setting = record { ticks-least = J .ticks-least; ticks-most = J .ticks-most; gap-most = omega arith };
           row = λ i h.
               let l : i < maxRows = omega (arith, each-start) in
               record {
@@ -92,7 +97,7 @@ module _ (s : Stated) where
         }
 
     pub witness-plan : Plan witness labels
-    unfolding witness
+    unfolding witness marks
     witness-plan =
         record {
           each = each-label ∙ sym each-start;
@@ -105,7 +110,7 @@ module _ (s : Stated) where
               let l : i < maxRows = omega (arith, each-start) in
               let l′ : j < maxRows = omega (arith, each-start) in
               apart s J (place s i) (place s j) d (λ z. n (label-at i l ∙ z)) (sym (label-at i l) ∙ e ∙ label-at j l′)
-              (rw (start-at i l, end-at i l, start-at j l′, end-at j l′) at o);
+              (rw (start-at i l, end-at i l, start-at j l′, end-at j l′) at (too-close-0 (s .kind) (s .ticks) (at starts i) (at ends i) (at starts j) (at ends j) .0 o));
         }
 
     -- ---- its tape states what is stated

@@ -21,12 +21,12 @@ unfoldable pub tapeOf : Table → List ℕ → List ℕ
 unfolding planTape
 tapeOf t labels = planTape (t .setting .kind) (t .setting .ticks) (t .starts) (t .ends) labels
 
--- "Writer's order: 1, 2, 4, 5, rows for 6 and 7", the checks before 9
+-- "Writer's order: 1, 2, 4, 5, rows for 6 and 7", the checks before 9, with 14 "looked at after 5" (request 4 of paper 02)
 unfoldable pub labelled : Table → List ℕ → Refusal
 unfolding lengthsRefusal tableLooked
 labelled t labels = listsRefusal t labels then tableLooked t .refusal
 
--- "Writer's order: 1, 2, 4, 5, rows for 6 and 7, 9, 10." "9: labels offered to the writer are not a plan." "10: plan tape buffer shorter than the tape."
+-- "Writer's order: 1, 2, 4, 5, rows for 6 and 7, 9, 10." with 14 "looked at after 5"; "9: labels offered to the writer are not a plan." "10: plan tape buffer shorter than the tape."
 unfoldable pub writeRefusal : Table → List ℕ → ℕ → Refusal
 unfolding lengthsRefusal tableLooked isPlan tapeOf
 writeRefusal t labels buffer =

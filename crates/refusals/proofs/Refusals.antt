@@ -5,7 +5,7 @@ use mathlib.Core.Bool.{Bool, true, false, cond, not}
 use native.Mathlib.Omega.{arith}
 use borrow.Author.Tests.{eq-eqb, ne-eqb, eqb-true, eqb-false, not-true, not-false}
 use Rattle.refusals.specs.declared.Refusal.{Refusal}
-use Rattle.refusals.specs.declared.Refusal.the-variants.{Accepted, Lists, Rows, Space, Ticks, Hours, Window, Mark, NoPlan, NotPlan, Buffer, Form, Tape, FirstTick}
+use Rattle.refusals.specs.declared.Refusal.the-variants.{Accepted, Lists, Rows, Space, Ticks, Hours, Window, Mark, NoPlan, NotPlan, Buffer, Form, Tape, FirstTick, Gap}
 use Rattle.refusals.specs.Refusals.{numberOf, asked, passes, _then_}
 
 -- a check that refuses nothing
@@ -28,6 +28,7 @@ number-below Buffer = omega arith
 number-below Form = omega arith
 number-below Tape = omega arith
 number-below FirstTick = omega arith
+number-below Gap = omega arith
 
 -- ---- what comes out, from what a function that makes the check returned
 
@@ -98,4 +99,5 @@ pub numbers :
     × (numberOf Form ≡ 11)
     × (numberOf Tape ≡ 12)
     × (numberOf FirstTick ≡ 13)
-numbers = (refl, refl, refl, refl, refl, refl, refl, refl, refl, refl, refl, refl, refl, refl)
+    × (numberOf Gap ≡ 14)
+numbers = (refl, refl, refl, refl, refl, refl, refl, refl, refl, refl, refl, refl, refl, refl, refl)

@@ -3,7 +3,7 @@ use Prim.Native.Nat.{ℕ}
 use mathlib.Core.Bool.{Bool, cond}
 use lib.Dec.{eqb}
 use Rattle.refusals.specs.declared.Refusal.{Refusal}
-use Rattle.refusals.specs.declared.Refusal.the-variants.{Accepted, Lists, Rows, Space, Ticks, Hours, Window, Mark, NoPlan, NotPlan, Buffer, Form, Tape, FirstTick}
+use Rattle.refusals.specs.declared.Refusal.the-variants.{Accepted, Lists, Rows, Space, Ticks, Hours, Window, Mark, NoPlan, NotPlan, Buffer, Form, Tape, FirstTick, Gap}
 use Rattle.refusals.specs.declared.Answer.{Answer}
 
 abbrev pub numberOf : Refusal → ℕ
@@ -21,6 +21,7 @@ numberOf Buffer = 10
 numberOf Form = 11
 numberOf Tape = 12
 numberOf FirstTick = 13
+numberOf Gap = 14
 
 -- what a call reports
 abbrev pub answered : Refusal → ℕ → Answer

@@ -18,6 +18,7 @@ pub enum Refusal {
     Form,
     Tape,
     FirstTick,
+    Gap,
 }
 
 // What a call reports.
@@ -45,6 +46,7 @@ pub fn number(refusal: Refusal) -> u8
         Refusal::Form => 11,
         Refusal::Tape => 12,
         Refusal::FirstTick => 13,
+        Refusal::Gap => 14,
     }
 }
 

@@ -163,7 +163,7 @@ module _ (tape : List ℕ) where
         ∙ sym (rw (← read-places, ne-eqb (numberOf (r .report .refusal)) 0 n) refl)
 
     -- the reader accepts
-    pub reader-accepted : (space : List ℕ) → numberOf (r .report .refusal) ≡ 0 → {S : Setting} → S ≡ settingOf (r .report .kind) (r .report .ticks) (r .report .hours)
+    pub reader-accepted : (space : List ℕ) → numberOf (r .report .refusal) ≡ 0 → {S : Setting} → S ≡ settingOf (r .report .kind) (r .report .ticks) 0 (r .report .hours)
         → repliedWith (planned (table S (take (r .report .rows) (r .starts)) (take (r .report .rows) (r .ends)) (take (r .report .rows) (r .marks))) (take (r .report .rows) labels) (length space)) out space
         ≡ repliedWith (readAnswer (fleetRead tape places places places) (length space)) out space
     unfolding readAnswer

@@ -27,10 +27,10 @@ outBytes = 400
 unfoldable pub places : List ℕ
 places = replicate maxRows 0
 
--- the table that was read: the rows present
+-- the table that was read: the rows present, and as the gap "`hubplan` uses 0" (request 4 of paper 02)
 abbrev pub tableRead : Reading → Table
 tableRead r =
-    table (settingOf (r .report .kind) (r .report .ticks) (r .report .hours))
+    table (settingOf (r .report .kind) (r .report .ticks) 0 (r .report .hours))
     (take (r .report .rows) (r .starts))
     (take (r .report .rows) (r .ends))
     (take (r .report .rows) (r .marks))

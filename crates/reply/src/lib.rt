@@ -155,7 +155,8 @@ fn reply_lent(
     let kind = report.kind;
     let rows = report.rows;
     let hours = fleet_tape::hours_in(report);
-    let setting = table::setting_of(kind, report.ticks, hours);
+    // "`hubplan` uses 0" as the gap.
+    let setting = table::setting_of(kind, report.ticks, 0, hours);
     reply_table(
         setting,
         &starts[..rows],

@@ -1,5 +1,5 @@
--- The bench table: P1 to P12 of paper 01, and examples of marks 2 to 5 and of beacons that send all day (requests 2 and 3 of paper 02). Calls, and the whole answer to each.
-use Prim.Native.Nat.{ℕ}
+-- The bench table: P1 to P12 of paper 01, and examples of marks 2 to 5, of beacons that send all day and of gaps (requests 2, 3 and 4 of paper 02). Calls, and the whole answer to each.
+use Prim.Native.Nat.{ℕ, _-_}
 use mathlib.Core.Path.{_≡_, refl}
 use mathlib.Core.List.{List, [], _∷_, map}
 use Rattle.window.specs.declared.Kind.{Kind}
@@ -8,7 +8,7 @@ use Rattle.window.specs.declared.Row.{Row}
 use Rattle.window.specs.Rows.{row}
 use Rattle.window.specs.Hours.{hoursFrom, noHours}
 use Rattle.refusals.specs.declared.Refusal.{Refusal}
-use Rattle.refusals.specs.declared.Refusal.the-variants.{Accepted, Window, Mark, NoPlan}
+use Rattle.refusals.specs.declared.Refusal.the-variants.{Accepted, Ticks, Hours, Gap, Window, Mark, NoPlan}
 use Rattle.refusals.specs.Refusals.{answered}
 use Rattle.table.specs.Tables.{settingOf, Table, tableOf}
 use Rattle.table.specs.Planned.{Planned, answering, planned}
@@ -23,19 +23,27 @@ pub record Case : Type 0 where
 nines : List Row → List ℕ
 nines rows = map (λ r. 9) rows
 
-on : Kind → ℕ → List (List ℕ) → List Row → Planned → Case
-on kind R hours rows gives =
+on : Kind → ℕ → ℕ → List (List ℕ) → List Row → Planned → Case
+on kind R g hours rows gives =
     record {
-      lent = tableOf (settingOf kind R hours) rows;
+      lent = tableOf (settingOf kind R g hours) rows;
       before = nines rows;
       gives = gives;
     }
 
 round : ℕ → List Row → Planned → Case
-round R = on Round R noHours
+round R = on Round R 0 noHours
 
 run : ℕ → List (List ℕ) → List Row → Planned → Case
-run = on Run
+run R = on Run R 0
+
+-- a round of 20 ticks with this gap
+round-20 : ℕ → List Row → Planned → Case
+round-20 g = on Round 20 g noHours
+
+-- a run of 100 ticks with this gap, both receivers open all the time
+run-100 : ℕ → List Row → Planned → Case
+run-100 g = on Run 100 g (hoursFrom 0 100 0 100)
 
 plan : ℕ → List ℕ → Planned
 plan count labels = answering (answered Accepted count) labels
@@ -93,6 +101,22 @@ two a b c = row 7 7 a ∷ row 3 3 b ∷ row 0 1 c ∷ []
 -- a beacon that sends all day and a row of one tick, which only receiver 1 can hear; the first must be heard
 on-1 : ℕ → ℕ → List Row
 on-1 start end = row 7 7 3 ∷ row start end 2 ∷ []
+
+-- the second window starts where the first ends
+touching : ℕ → ℕ → List Row
+touching a b = row 2 8 a ∷ row 8 14 b ∷ []
+
+-- 3 ticks lie between the end of the first and the start of the second, and so many between the end of the second and the start of the first
+sides : ℕ → List Row
+sides n = row 0 5 0 ∷ row 8 (20 - n) 0 ∷ []
+
+-- three rows of one tick, in a round of 20 with 6, 6 and 5 ticks between them
+far : ℕ → List Row
+far m = row 0 1 m ∷ row 7 8 m ∷ row 14 15 m ∷ []
+
+-- from the first tick of a run to the last; in a round they would be 0 ticks apart
+both-ends : List Row
+both-ends = row 0 10 0 ∷ row 90 100 0 ∷ []
 
 -- P1 to P12, and then request 2: "2 and 3 may and must on receiver 1 only, 4 and 5 may and must on receiver 2 only"
 pub cases : List Case
@@ -154,6 +178,44 @@ cases =
     -- "both must still be below R, and a run refuses it as before"
     ∷ round 10 (row 10 10 0 ∷ []) (refused Window (row 10 10 0 ∷ []))
     ∷ run 100 p9-hours (row 45 45 0 ∷ []) (refused Window (row 45 45 0 ∷ []))
+    -- request 4: windows that touch have 0 ticks between them; g of 1 forbids it on one receiver, and between the receivers nothing is owed
+    ∷ round-20 0 (touching 0 0) (plan 2 (1 ∷ 1 ∷ []))
+    ∷ round-20 1 (touching 0 0) (plan 2 (1 ∷ 2 ∷ []))
+    ∷ run-100 0 (touching 0 0) (plan 2 (1 ∷ 1 ∷ []))
+    ∷ run-100 1 (touching 0 0) (plan 2 (1 ∷ 2 ∷ []))
+    -- "Labels that break the gap are no plan, for 8": both must be on receiver 1
+    ∷ round-20 0 (touching 3 3) (plan 2 (1 ∷ 1 ∷ []))
+    ∷ round-20 1 (touching 3 3) (refused NoPlan (touching 3 3))
+    -- "In a round the gap is counted round the circle, and the gaps on both sides must do": exactly g on both, g − 1 on one, either way round
+    ∷ round-20 3 (sides 3) (plan 2 (1 ∷ 1 ∷ []))
+    ∷ round-20 3 (sides 2) (plan 2 (1 ∷ 2 ∷ []))
+    ∷ round-20 4 (sides 4) (plan 2 (1 ∷ 2 ∷ []))
+    ∷ round-20 3 (row 8 18 0 ∷ row 0 5 0 ∷ []) (plan 2 (1 ∷ 2 ∷ []))
+    ∷ round-20 3 (row 18 5 0 ∷ row 8 15 0 ∷ []) (plan 2 (1 ∷ 1 ∷ []))
+    ∷ round-20 3 (row 18 5 0 ∷ row 8 16 0 ∷ []) (plan 2 (1 ∷ 2 ∷ []))
+    -- a gap that all three keep, that two of them keep and that none keeps; g of R and more
+    ∷ round-20 5 (far 0) (plan 3 (1 ∷ 1 ∷ 1 ∷ []))
+    ∷ round-20 6 (far 0) (plan 3 (1 ∷ 1 ∷ 2 ∷ []))
+    ∷ round-20 7 (far 0) (plan 2 (1 ∷ 2 ∷ 0 ∷ []))
+    ∷ round-20 20 (far 0) (plan 2 (1 ∷ 2 ∷ 0 ∷ []))
+    ∷ round-20 600 (far 0) (plan 2 (1 ∷ 2 ∷ 0 ∷ []))
+    ∷ round-20 600 (far 1) (refused NoPlan (far 1))
+    -- a run does not come back: nothing is owed from its last window to its first, to tick 0, to R or to the hours
+    ∷ run-100 80 both-ends (plan 2 (1 ∷ 1 ∷ []))
+    ∷ run-100 81 both-ends (plan 2 (1 ∷ 2 ∷ []))
+    ∷ run-100 600 (row 0 100 1 ∷ []) (plan 1 (1 ∷ []))
+    ∷ on Run 100 20 p9-hours (row 0 50 0 ∷ row 40 100 0 ∷ []) (plan 2 (1 ∷ 2 ∷ []))
+    -- "A window is never too close to itself": a window alone with fewer than g ticks from its end to its start; equal windows in two rows are two windows
+    ∷ round-20 5 (row 3 19 1 ∷ []) (plan 1 (1 ∷ []))
+    ∷ round-20 600 (row 3 2 1 ∷ []) (plan 1 (1 ∷ []))
+    ∷ round-20 600 (row 7 7 1 ∷ []) (plan 1 (1 ∷ []))
+    ∷ round-20 1 (row 4 5 0 ∷ row 4 5 0 ∷ row 4 5 0 ∷ []) (plan 2 (1 ∷ 2 ∷ 0 ∷ []))
+    -- "14, g above 600, looked at after 5": in a round after 4, and before the rows
+    ∷ round-20 601 (far 0) (refused Gap (far 0))
+    ∷ run-100 601 both-ends (refused Gap both-ends)
+    ∷ on Run 100 601 (hoursFrom 9 8 0 100) both-ends (refused Hours both-ends)
+    ∷ on Round 1 601 noHours (far 0) (refused Ticks (far 0))
+    ∷ round-20 601 p12 (refused Gap p12)
     ∷ []
 
 -- each call gives what stands in the table, with 16,384 bytes of working space
@@ -162,5 +224,5 @@ Holds [] = Unit {0}
 Holds (c ∷ cs) = (planned (c .lent) (c .before) 16384 ≡ c .gives) × Holds cs
 
 pub bench : Holds cases
-unfolding planned cases on round run plan refused nines p2 p5 p9-hours p9 p12 middle last equal closed-1 alone all-day pairs two on-1
-bench = (refl, (refl, (refl, (refl, (refl, (refl, (refl, (refl, (refl, (refl, (refl, (refl, (refl, (refl, (refl, (refl, (refl, (refl, (refl, (refl, (refl, (refl, (refl, (refl, (refl, (refl, (refl, (refl, (refl, (refl, (refl, (refl, (refl, (refl, (refl, (refl, (refl, (refl, (refl, (refl, (refl, (refl, (refl, (refl, (refl, tt)))))))))))))))))))))))))))))))))))))))))))))
+unfolding planned cases on round run plan refused nines p2 p5 p9-hours p9 p12 middle last equal closed-1 alone all-day pairs two on-1 round-20 run-100 touching sides far both-ends
+bench = (refl, (refl, (refl, (refl, (refl, (refl, (refl, (refl, (refl, (refl, (refl, (refl, (refl, (refl, (refl, (refl, (refl, (refl, (refl, (refl, (refl, (refl, (refl, (refl, (refl, (refl, (refl, (refl, (refl, (refl, (refl, (refl, (refl, (refl, (refl, (refl, (refl, (refl, (refl, (refl, (refl, (refl, (refl, (refl, (refl, (refl, (refl, (refl, (refl, (refl, (refl, (refl, (refl, (refl, (refl, (refl, (refl, (refl, (refl, (refl, (refl, (refl, (refl, (refl, (refl, (refl, (refl, (refl, (refl, (refl, (refl, (refl, (refl, (refl, (refl, (refl, tt))))))))))))))))))))))))))))))))))))))))))))))))))))))))))))))))))))))))))))

@@ -15,15 +15,16 @@ use Rattle.window.specs.declared.Kind.the-variants.{Round, Run}
 use Rattle.marks.specs.Marks.{maxMark}
 use Rattle.window.specs.declared.Row.{Row}
 use Rattle.window.specs.Windows.{isWindow}
+use Rattle.window.specs.Gaps.{maxGap}
 use Rattle.window.proofs.Meaning.{window-iff}
 use Rattle.refusals.specs.declared.Refusal.{Refusal}
-use Rattle.refusals.specs.declared.Refusal.the-variants.{Lists, Rows, Space, Ticks, Window, Mark}
+use Rattle.refusals.specs.declared.Refusal.the-variants.{Lists, Rows, Space, Ticks, Gap, Window, Mark}
 use Rattle.refusals.specs.Refusals.{numberOf, asked, passes, _then_}
 use Rattle.refusals.proofs.Refusals.{Passed, then-passed, asked-passed, then-either, asked-either}
 use Rattle.table.specs.declared.Setting.{Setting}
 use Rattle.table.specs.declared.Looked.{Looked}
 use Rattle.table.specs.Tables.{Table, rows, rowAt, isEven, ValidSetting, ValidRow, Valid}
-use Rattle.table.specs.Checks.{lengthsRefusal, listsRefusal, ticksRefusal, isHours, hoursRefusal, settingRefusal, rowRefusal, looked, lookFrom, rowCheck, rowsLooked, tableLooked}
+use Rattle.table.specs.Checks.{lengthsRefusal, listsRefusal, ticksRefusal, isHours, hoursRefusal, gapRefusal, settingRefusal, rowRefusal, looked, lookFrom, rowCheck, rowsLooked, tableLooked}
 use Rattle.table.specs.Planned.{spaceBytes, spaceRefusal, checked}
 
 cond-passed : (x : Bool) (a b : Looked) → 1 ≤ numberOf (b .refusal) → Passed (cond x a b .refusal) → (x ≡ true) × Passed (a .refusal)
@@ -60,12 +61,15 @@ looked-passed check i (suc n) p k h l =
 
 module _ (S : Setting) where
   setting-passed : Passed (settingRefusal S) → ValidSetting S
-  unfolding settingRefusal ticksRefusal
+  unfolding settingRefusal ticksRefusal gapRefusal
   setting-passed p =
       let ticks = leb 2 (S .ticks) && leb (S .ticks) 43200 in
-      let f = then-passed (asked ticks Ticks) (hoursRefusal (S .kind) (S .ticks) (S .hours)) p in
+      let hours = hoursRefusal (S .kind) (S .ticks) (S .hours) in
+      let gap = leb (S .gap) maxGap in
+      let f = then-passed (asked ticks Ticks) (hours then asked gap Gap) p in
       let h = and-iff (leb-iff 2 (S .ticks)) (leb-iff (S .ticks) 43200) .0 (asked-passed ticks Ticks (omega arith) (f .0)) in
-      record { ticks-least = h .0; ticks-most = h .1 }
+      let g = asked-passed gap Gap (omega arith) (then-passed hours (asked gap Gap) (f .1) .1) in
+      record { ticks-least = h .0; ticks-most = h .1; gap-most = leb-true (S .gap) maxGap g }
 
   row-passed : (row : Row) → Passed (rowRefusal S row) → ValidRow S row
   unfolding rowRefusal
@@ -131,8 +135,11 @@ hours-8 Round R hours = record { not = λ e. omega arith }
 hours-8 Run R hours = asked-8 (isHours hours R 0 && isHours hours R 1) (record { not = λ e. omega arith })
 
 setting-8 : (S : Setting) → Not8 (settingRefusal S)
-unfolding settingRefusal ticksRefusal
-setting-8 S = then-either Not8 (asked-8 (leb 2 (S .ticks) && leb (S .ticks) 43200) {r = Ticks} (record { not = λ e. omega arith })) (hours-8 (S .kind) (S .ticks) (S .hours))
+unfolding settingRefusal ticksRefusal gapRefusal
+setting-8 S =
+    then-either Not8
+    (asked-8 (leb 2 (S .ticks) && leb (S .ticks) 43200) {r = Ticks} (record { not = λ e. omega arith }))
+    (then-either Not8 (hours-8 (S .kind) (S .ticks) (S .hours)) (asked-8 (leb (S .gap) maxGap) {r = Gap} (record { not = λ e. omega arith })))
 
 row-8 : (S : Setting) (row : Row) → Not8 (rowRefusal S row)
 unfolding rowRefusal

@@ -4,12 +4,13 @@ use mathlib.Core.Path.{_≡_, refl}
 use mathlib.Core.List.{List, [], _∷_}
 use lib.ListN.{replicate}
 use Rattle.basics.specs.Lists.{at}
+use Rattle.window.specs.declared.Kind.{Kind}
 use Rattle.window.specs.declared.Kind.the-variants.{Round, Run}
 use Rattle.window.specs.declared.Row.{Row}
 use Rattle.window.specs.Rows.{row}
 use Rattle.window.specs.Hours.{hoursFrom, noHours}
 use Rattle.refusals.specs.declared.Refusal.{Refusal}
-use Rattle.refusals.specs.declared.Refusal.the-variants.{Accepted, Lists, Rows, Space, Ticks, Hours, Window, Mark, NoPlan}
+use Rattle.refusals.specs.declared.Refusal.the-variants.{Accepted, Lists, Rows, Space, Ticks, Hours, Gap, Window, Mark, NoPlan}
 use Rattle.refusals.specs.Refusals.{answered}
 use Rattle.table.specs.Tables.{settingOf, Table, table, tableOf}
 use Rattle.table.specs.Checks.{looked, tableLooked}
@@ -24,11 +25,15 @@ abbrev Plans : ℕ → List ℕ → Table → List ℕ → ℕ → Type 0
 Plans count labels t before space = planned t before space ≡ answering (answered Accepted count) labels
 
 abbrev round : ℕ → List Row → Table
-round R = tableOf (settingOf Round R noHours)
+round R = tableOf (settingOf Round R 0 noHours)
 
 -- a run of 100 ticks with these hours
 abbrev run : ℕ → ℕ → ℕ → ℕ → List Row → Table
-run p1 q1 p2 q2 = tableOf (settingOf Run 100 (hoursFrom p1 q1 p2 q2))
+run p1 q1 p2 q2 = tableOf (settingOf Run 100 0 (hoursFrom p1 q1 p2 q2))
+
+-- a round or a run of 100 ticks with this gap, both receivers open all the time
+abbrev gapped : Kind → ℕ → List Row → Table
+gapped kind g = tableOf (settingOf kind 100 g (hoursFrom 0 100 0 100))
 
 -- "R 1, 2, 43,200, 43,201", in a round
 pub ticks : Refused Ticks (round 1 []) [] 16384 × Plans 0 [] (round 2 []) [] 16384 × Plans 0 [] (round 43200 []) [] 16384 × Refused Ticks (round 43201 []) [] 16384
@@ -57,7 +62,7 @@ unfolding planned
 hours = (refl, refl, refl, refl, refl, refl)
 
 -- "In a round both receivers are always open": hours that would be wrong in a run are taken
-pub round-hours : Plans 1 (1 ∷ []) (tableOf (settingOf Round 100 (hoursFrom 9 8 200 300)) (row 10 20 1 ∷ [])) (5 ∷ []) 16384
+pub round-hours : Plans 1 (1 ∷ []) (tableOf (settingOf Round 100 0 (hoursFrom 9 8 200 300)) (row 10 20 1 ∷ [])) (5 ∷ []) 16384
 unfolding planned
 round-hours = refl
 
@@ -90,22 +95,38 @@ pub marks :
 unfolding planned
 marks = (refl, refl, refl, refl, refl)
 
--- "1, 2, 3, 4, 5, then rows from 0, each for 6 and then 7": of two faults the first is reported
+-- "14, g above 600", in a round and in a run; a gap has 16 bits
+pub gaps :
+    Plans 1 (1 ∷ []) (gapped Round 600 (row 10 20 0 ∷ [])) (9 ∷ []) 16384
+    × Refused Gap (gapped Round 601 (row 10 20 0 ∷ [])) (9 ∷ []) 16384
+    × Refused Gap (gapped Round 65535 (row 10 20 0 ∷ [])) (9 ∷ []) 16384
+    × Plans 1 (1 ∷ []) (gapped Run 600 (row 10 20 0 ∷ [])) (9 ∷ []) 16384
+    × Refused Gap (gapped Run 601 (row 10 20 0 ∷ [])) (9 ∷ []) 16384
+    × Refused Gap (gapped Round 601 []) [] 16384
+unfolding planned
+gaps = (refl, refl, refl, refl, refl, refl)
+
+-- "1, 2, 3, 4, 5, then rows from 0, each for 6 and then 7", with 14 "looked at after 5": of two faults the first is reported
 pub order :
-    Refused Lists (table (settingOf Round 1 noHours) (replicate 65 1) (replicate 64 2) (replicate 65 9)) (replicate 65 5) 0
-    × Refused Rows (round 1 (replicate 65 (row 3 100 9))) (replicate 65 5) 0
-    × Refused Space (round 1 (row 3 100 9 ∷ [])) (5 ∷ []) 0
-    × Refused Ticks (tableOf (settingOf Run 1 (hoursFrom 9 8 0 0)) (row 3 3 9 ∷ [])) (5 ∷ []) 16384
-    × Refused Hours (run 9 8 0 0 (row 3 3 9 ∷ [])) (5 ∷ []) 16384
+    Refused Lists (table (settingOf Round 1 601 noHours) (replicate 65 1) (replicate 64 2) (replicate 65 9)) (replicate 65 5) 0
+    × Refused Rows (tableOf (settingOf Round 1 601 noHours) (replicate 65 (row 3 100 9))) (replicate 65 5) 0
+    × Refused Space (tableOf (settingOf Round 1 601 noHours) (row 3 100 9 ∷ [])) (5 ∷ []) 0
+    × Refused Ticks (tableOf (settingOf Run 1 601 (hoursFrom 9 8 0 0)) (row 3 3 9 ∷ [])) (5 ∷ []) 16384
+    × Refused Ticks (tableOf (settingOf Round 1 601 noHours) (row 3 3 9 ∷ [])) (5 ∷ []) 16384
+    × Refused Hours (tableOf (settingOf Run 100 601 (hoursFrom 9 8 0 0)) (row 3 3 9 ∷ [])) (5 ∷ []) 16384
+    × Refused Gap (gapped Run 601 (row 3 3 9 ∷ [])) (5 ∷ []) 16384
+    × Refused Gap (gapped Round 601 (row 3 100 9 ∷ [])) (5 ∷ []) 16384
+    × Refused Gap (gapped Round 601 (row 3 4 9 ∷ [])) (5 ∷ []) 16384
+    × Refused Gap (gapped Round 601 (row 3 4 3 ∷ row 3 4 3 ∷ [])) (5 ∷ 5 ∷ []) 16384
     × Refused Window (round 100 (row 3 100 9 ∷ [])) (5 ∷ []) 16384
     × Refused Mark (round 100 (row 3 4 9 ∷ row 3 100 0 ∷ [])) (5 ∷ 5 ∷ []) 16384
 unfolding planned
-order = (refl, refl, refl, refl, refl, refl, refl)
+order = (refl, refl, refl, refl, refl, refl, refl, refl, refl, refl, refl, refl)
 
 -- lists of unequal length, each of them
 pub lists :
-    Refused Lists (table (settingOf Round 100 noHours) (1 ∷ []) [] (0 ∷ [])) (5 ∷ []) 16384
-    × Refused Lists (table (settingOf Round 100 noHours) (1 ∷ []) (2 ∷ []) []) (5 ∷ []) 16384
+    Refused Lists (table (settingOf Round 100 0 noHours) (1 ∷ []) [] (0 ∷ [])) (5 ∷ []) 16384
+    × Refused Lists (table (settingOf Round 100 0 noHours) (1 ∷ []) (2 ∷ []) []) (5 ∷ []) 16384
     × Refused Lists (round 100 (row 1 2 0 ∷ [])) [] 16384
     × Refused Lists (round 100 (row 1 2 0 ∷ [])) (5 ∷ 5 ∷ []) 16384
 unfolding planned
@@ -117,8 +138,9 @@ pub rows-looked :
     × (tableLooked (round 100 (row 1 2 9 ∷ row 3 100 0 ∷ [])) ≡ looked Mark 1)
     × (tableLooked (round 100 (row 1 2 0 ∷ row 3 4 1 ∷ [])) ≡ looked Accepted 2)
     × (tableLooked (round 1 (row 1 2 0 ∷ [])) ≡ looked Ticks 0)
+    × (tableLooked (gapped Round 601 (row 1 2 0 ∷ [])) ≡ looked Gap 0)
 unfolding tableLooked
-rows-looked = (refl, refl, refl, refl)
+rows-looked = (refl, refl, refl, refl, refl)
 
 -- the working space after a call: cleared where it is accepted and by 8, else untouched
 pub space-after :
@@ -127,5 +149,6 @@ pub space-after :
     × (spaceAfter Mark (5 ∷ []) ≡ 5 ∷ [])
     × (spaceAfter Space (5 ∷ []) ≡ 5 ∷ [])
     × (spaceAfter Lists (5 ∷ []) ≡ 5 ∷ [])
+    × (spaceAfter Gap (5 ∷ []) ≡ 5 ∷ [])
 unfolding spaceAfter
-space-after = (refl, refl, refl, refl, refl)
+space-after = (refl, refl, refl, refl, refl, refl)

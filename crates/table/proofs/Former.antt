@@ -2,6 +2,7 @@
 use Prim.Native.Nat.{ℕ, zero, suc, _≤_}
 use mathlib.Core.Path.{_≡_, refl, sym, _∙_}
 use mathlib.Core.Logic.{_≢_, _↔_, inl, Iff·rfl, Iff·symm, Iff·trans}
+use mathlib.Core.Bool.{Bool, true, false, _&&_}
 use mathlib.Core.List.{List}
 use mathlib.Core.Option.{Option, none, some}
 use native.Mathlib.Omega.{arith}
@@ -14,12 +15,15 @@ use Rattle.marks.proofs.Allowing.{must-least, either-least}
 use Rattle.window.specs.declared.Row.{Row}
 use Rattle.window.specs.Windows.{Window}
 use Rattle.window.proofs.AllDay.{window-kept-3, overlap-kept-3}
+use Rattle.window.proofs.Gaps.{too-close-0}
+use Rattle.refusals.specs.declared.Refusal.the-variants.{Accepted, Hours}
+use Rattle.refusals.specs.Refusals.{asked, _then_}
 use Rattle.refusals.proofs.Refusals.{Passed}
 use Rattle.table.specs.declared.Setting.{Setting}
-use Rattle.table.specs.Tables.{Table, rows, rowAt, Open, Allowed, Clash, Plan, Valid}
-use Rattle.table.specs.Checks.{rowRefusal}
+use Rattle.table.specs.Tables.{Table, rows, rowAt, Open, Allowed, Plan, Valid}
+use Rattle.table.specs.Checks.{isHours, hoursRefusal, gapRefusal, settingRefusal, rowRefusal}
 use Rattle.table.specs.Planned.{Planned, checked, bestPlan, planned}
-use Rattle.table.specs.Former.{PlannedBy, ClashBefore3, PlanBefore3, rowRefusalBefore3, NoneAllDay, OpenBefore2, AllowedBefore2, PlanBefore2, rowRefusalBefore2, OnlyMarks01}
+use Rattle.table.specs.Former.{PlannedBy, ClashBefore4, PlanBefore4, settingRefusalBefore4, NoGap, ClashBefore3, PlanBefore3, rowRefusalBefore3, NoneAllDay, OpenBefore2, AllowedBefore2, PlanBefore2, rowRefusalBefore2, OnlyMarks01}
 use Rattle.table.proofs.Checked.{checked-valid}
 use Rattle.table.proofs.Rivals.{best-plan, no-plan, only-best, only-none}
 
@@ -47,6 +51,25 @@ module _ (t : Table) (before : List ℕ) (space : ℕ) (p : Passed (checked t be
           let b = best-plan t valid a .0 e in
           g .best a (best-iff plans b) ∙ sym (only-best t before space p a b)
 
+-- ---- request 4
+
+-- checks 4, 5 and 14 with a gap of 0
+pub setting-check-kept-4 : (S : Setting) → S .gap ≡ 0 → settingRefusal S ≡ settingRefusalBefore4 S
+unfolding settingRefusal settingRefusalBefore4 gapRefusal hoursRefusal
+setting-check-kept-4 S e = rw (e, hours-last (S .kind) (S .ticks) (S .hours)) refl
+  where
+    hours-last : (kind : Kind) (R : ℕ) (hours : List (List ℕ)) → (hoursRefusal kind R hours then Accepted) ≡ hoursRefusal kind R hours
+    hours-last Round R hours = refl
+    hours-last Run R hours = go (isHours hours R 0 && isHours hours R 1)
+      where
+        go : (x : Bool) → (asked x Hours then Accepted) ≡ asked x Hours
+        go true = refl
+        go false = refl
+
+-- "G OF 0 IS THE FORMER BEHAVIOUR", whatever the marks, and with beacons that send all day
+pub plans-kept-4 : (t : Table) → NoGap t → (l : List ℕ) → Plan t l ↔ PlanBefore4 t l
+plans-kept-4 t e = assignment-iff (rows t) (λ i x h. Iff·rfl) (λ i j h k d. rw e (too-close-0 (t .setting .kind) (t .setting .ticks) (rowAt t i .start) (rowAt t i .end) (rowAt t j .start) (rowAt t j .end)))
+
 -- ---- request 3
 
 module _ (S : Setting) where
@@ -60,7 +83,7 @@ module _ (S : Setting) where
   unfolding rowRefusal rowRefusalBefore3
   row-check-run-3 row e = rw e refl
 
-  clash-kept-3 : (row row′ : Row) → row .start ≢ row .end → row′ .start ≢ row′ .end → Clash S row row′ ↔ ClashBefore3 S row row′
+  clash-kept-3 : (row row′ : Row) → row .start ≢ row .end → row′ .start ≢ row′ .end → ClashBefore4 S row row′ ↔ ClashBefore3 S row row′
   clash-kept-3 row row′ = overlap-kept-3 (S .kind) (S .ticks) (row .start) (row .end) (row′ .start) (row′ .end)
 
 -- so that no row of a run which passes its checks sends all day
@@ -70,7 +93,7 @@ run-none-all-day t valid e i h q =
     absurd (omega (arith, w .0))
 
 -- TABLES WITHOUT BEACONS THAT SEND ALL DAY, whatever their marks, KEEP THEIR PLANS
-pub plans-kept-3 : (t : Table) → NoneAllDay t → (l : List ℕ) → Plan t l ↔ PlanBefore3 t l
+pub plans-kept-3 : (t : Table) → NoneAllDay t → (l : List ℕ) → PlanBefore4 t l ↔ PlanBefore3 t l
 plans-kept-3 t differ = assignment-iff (rows t) (λ i x h. Iff·rfl) (λ i j h k d. clash-kept-3 (t .setting) (rowAt t i) (rowAt t j) (differ i h) (differ j k))
 
 -- ---- request 2
@@ -105,19 +128,29 @@ plans-kept-2 t old = assignment-iff (rows t) (λ i x h. allowed-kept-2 (t .setti
 
 -- ---- and so the planner gives what it gave
 
-module _ (t : Table) (differ : NoneAllDay t) (before : List ℕ) (space : ℕ) (p : Passed (checked t before space)) where
-  pub planned-kept-3 : PlannedBy (PlanBefore3 t) before (planned t before space)
-  planned-kept-3 = planned-by t before space p (PlanBefore3 t) (plans-kept-3 t differ)
+module _ (t : Table) (zero-gap : NoGap t) (before : List ℕ) (space : ℕ) (p : Passed (checked t before space)) where
+  pub planned-kept-4 : PlannedBy (PlanBefore4 t) before (planned t before space)
+  planned-kept-4 = planned-by t before space p (PlanBefore4 t) (plans-kept-4 t zero-gap)
 
-  pub planned-only-3 : (gave : Planned) → PlannedBy (PlanBefore3 t) before gave → gave ≡ planned t before space
-  planned-only-3 = planned-only t before space p (PlanBefore3 t) (plans-kept-3 t differ)
+  pub planned-only-4 : (gave : Planned) → PlannedBy (PlanBefore4 t) before gave → gave ≡ planned t before space
+  planned-only-4 = planned-only t before space p (PlanBefore4 t) (plans-kept-4 t zero-gap)
 
-  module _ (old : OnlyMarks01 t) where
-    both : (l : List ℕ) → Plan t l ↔ PlanBefore2 t l
-    both l = Iff·trans (plans-kept-3 t differ l) (plans-kept-2 t old l)
+  module _ (differ : NoneAllDay t) where
+    since-3 : (l : List ℕ) → Plan t l ↔ PlanBefore3 t l
+    since-3 l = Iff·trans (plans-kept-4 t zero-gap l) (plans-kept-3 t differ l)
 
-    pub planned-kept-2 : PlannedBy (PlanBefore2 t) before (planned t before space)
-    planned-kept-2 = planned-by t before space p (PlanBefore2 t) both
+    pub planned-kept-3 : PlannedBy (PlanBefore3 t) before (planned t before space)
+    planned-kept-3 = planned-by t before space p (PlanBefore3 t) since-3
 
-    pub planned-only-2 : (gave : Planned) → PlannedBy (PlanBefore2 t) before gave → gave ≡ planned t before space
-    planned-only-2 = planned-only t before space p (PlanBefore2 t) both
+    pub planned-only-3 : (gave : Planned) → PlannedBy (PlanBefore3 t) before gave → gave ≡ planned t before space
+    planned-only-3 = planned-only t before space p (PlanBefore3 t) since-3
+
+    module _ (old : OnlyMarks01 t) where
+      since-2 : (l : List ℕ) → Plan t l ↔ PlanBefore2 t l
+      since-2 l = Iff·trans (since-3 l) (plans-kept-2 t old l)
+
+      pub planned-kept-2 : PlannedBy (PlanBefore2 t) before (planned t before space)
+      planned-kept-2 = planned-by t before space p (PlanBefore2 t) since-2
+
+      pub planned-only-2 : (gave : Planned) → PlannedBy (PlanBefore2 t) before gave → gave ≡ planned t before space
+      planned-only-2 = planned-only t before space p (PlanBefore2 t) since-2

@@ -9,5 +9,6 @@ pub mod Rivals
 pub mod Former
 pub mod Request2
 pub mod Request3
+pub mod Request4
 pub mod Calls
 pub mod Passing

@@ -13,14 +13,15 @@ use Rattle.basics.proofs.Tests.{leb-iff, eqb-iff, and-iff}
 use Rattle.marks.specs.Marks.{maxMark}
 use Rattle.window.specs.declared.Row.{Row}
 use Rattle.window.specs.Windows.{isWindow}
+use Rattle.window.specs.Gaps.{maxGap}
 use Rattle.window.proofs.Meaning.{window-iff}
 use Rattle.refusals.specs.declared.Refusal.{Refusal}
-use Rattle.refusals.specs.declared.Refusal.the-variants.{Lists, Rows, Ticks, Window, Mark}
-use Rattle.refusals.specs.Refusals.{numberOf, asked}
+use Rattle.refusals.specs.declared.Refusal.the-variants.{Lists, Rows, Ticks, Gap, Window, Mark}
+use Rattle.refusals.specs.Refusals.{numberOf, asked, _then_}
 use Rattle.refusals.proofs.Refusals.{Passed, asked-passes, then-passes}
 use Rattle.table.specs.declared.Setting.{Setting}
 use Rattle.table.specs.Tables.{Table, rows, rowAt, ValidSetting, ValidRow, Valid}
-use Rattle.table.specs.Checks.{lengthsRefusal, listsRefusal, ticksRefusal, hoursRefusal, settingRefusal, rowRefusal, lookFrom, rowCheck, rowsLooked, tableLooked}
+use Rattle.table.specs.Checks.{lengthsRefusal, listsRefusal, ticksRefusal, hoursRefusal, gapRefusal, settingRefusal, rowRefusal, lookFrom, rowCheck, rowsLooked, tableLooked}
 
 -- the rows from i on, n of them
 look-passes : (check : ℕ → Refusal) (i n : ℕ) → ((k : ℕ) → i ≤ k → k < i + n → Passed (check k)) → Passed (lookFrom check i n .refusal)
@@ -32,11 +33,14 @@ look-passes check i (suc n) f =
 
 module _ (S : Setting) where
   setting-passes : ValidSetting S → Passed (hoursRefusal (S .kind) (S .ticks) (S .hours)) → Passed (settingRefusal S)
-  unfolding settingRefusal ticksRefusal
+  unfolding settingRefusal ticksRefusal gapRefusal
   setting-passes v p =
       let ticks = leb 2 (S .ticks) && leb (S .ticks) 43200 in
-      then-passes (asked ticks Ticks) (hoursRefusal (S .kind) (S .ticks) (S .hours))
-      (asked-passes ticks Ticks (and-iff (leb-iff 2 (S .ticks)) (leb-iff (S .ticks) 43200) .1 (v .ticks-least, v .ticks-most))) p
+      let hours = hoursRefusal (S .kind) (S .ticks) (S .hours) in
+      let gap = leb (S .gap) maxGap in
+      then-passes (asked ticks Ticks) (hours then asked gap Gap)
+      (asked-passes ticks Ticks (and-iff (leb-iff 2 (S .ticks)) (leb-iff (S .ticks) 43200) .1 (v .ticks-least, v .ticks-most)))
+      (then-passes hours (asked gap Gap) p (asked-passes gap Gap (leb-iff (S .gap) maxGap .1 (v .gap-most))))
 
   row-passes : (row : Row) → ValidRow S row → Passed (rowRefusal S row)
   unfolding rowRefusal

@@ -1,6 +1,6 @@
 -- The test for a plan says whether labels are one, for tables that pass their checks. Run and round together.
 use Prim.Native.Nat.{ℕ, zero, suc, _≤_, _<_}
-use mathlib.Core.Path.{_≡_, refl, sym, subst, _∙_}
+use mathlib.Core.Path.{_≡_, refl, sym, _∙_}
 use mathlib.Core.Logic.{_≢_, _↔_}
 use mathlib.Core.Bool.{Bool, true}
 use mathlib.Core.List.{List}
@@ -15,8 +15,9 @@ use Rattle.window.specs.declared.Kind.{Kind}
 use Rattle.window.specs.declared.Kind.the-variants.{Round, Run}
 use Rattle.window.specs.declared.Row.{Row}
 use Rattle.window.specs.Hours.{hour}
-use Rattle.window.specs.Windows.{overlaps}
-use Rattle.window.proofs.Meaning.{overlaps-iff, overlaps-start}
+use Rattle.window.specs.Gaps.{overlap}
+use Rattle.window.proofs.Meaning.{overlap-start}
+use Rattle.window.proofs.Gaps.{too-close-iff, too-close-sym}
 use Rattle.table.specs.declared.Setting.{Setting}
 use Rattle.table.specs.Tables.{Table, rows, rowAt, Open, Allowed, Clash, Plan, ValidRow, Valid, isOpen, isAllowed, clashes, isApart, isFit, isPlan}
 
@@ -51,16 +52,15 @@ module _ (S : Setting) (row : Row) where
   module _ (row′ : Row) where
     pub clashes-iff : ValidRow S row → ValidRow S row′ → (clashes S row row′ ≡ true) ↔ Clash S row row′
     unfolding clashes
-    clashes-iff v w = overlaps-iff (S .kind) (S .ticks) (row .start) (row .end) (row′ .start) (row′ .end) (v .window) (w .window)
+    clashes-iff v w = too-close-iff (S .kind) (S .ticks) (S .gap) (row .start) (row .end) (row′ .start) (row′ .end) (v .window) (w .window)
 
     -- rows that start together clash
     pub clash-start : ValidRow S row → ValidRow S row′ → row .start ≡ row′ .start → Clash S row row′
-    unfolding clashes
-    clash-start v w e = clashes-iff v w .0 (subst (λ (s : ℕ). overlaps (row .start) (row .end) s (row′ .end) ≡ true) e (overlaps-start (row .start) (row .end) (row′ .end)))
+    clash-start v w e = rw (← e) (overlap (overlap-start (S .kind) (S .ticks) (row .start) (row .end) (row′ .end) (v .window) (rw (← e) at (w .window))))
 
     -- a clash goes both ways
     pub clash-sym : Clash S row row′ → Clash S row′ row
-    clash-sym o = record { tick = o .tick; below = o .below; in-first = o .in-second; in-second = o .in-first }
+    clash-sym = too-close-sym (S .kind) (S .ticks) (S .gap) (row .start) (row .end) (row′ .start) (row′ .end)
 
 -- what `isFit` says of row i
 abbrev FitAt : Table → List ℕ → ℕ → Type 0

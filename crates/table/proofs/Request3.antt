@@ -9,11 +9,12 @@ use native.Mathlib.Omega.{arith}
 use lib.Dec.{leb}
 use Rattle.basics.specs.Lists.{at}
 use Rattle.basics.proofs.Tests.{Test, pass, fail, test}
-use Rattle.marks.specs.Marks.{Must, maxMark}
+use Rattle.marks.specs.Marks.{maxMark}
 use Rattle.window.specs.declared.Kind.the-variants.{Round, Run}
 use Rattle.window.specs.declared.Row.{Row}
 use Rattle.window.specs.Rows.{row}
 use Rattle.window.specs.Hours.{noHours}
+use Rattle.window.specs.Gaps.{overlap}
 use Rattle.window.proofs.AllDay.{all-day-overlaps, all-day-in-run}
 use Rattle.refusals.specs.declared.Refusal.the-variants.{Accepted, Window, Mark, NoPlan}
 use Rattle.refusals.specs.Refusals.{numberOf, answered, asked, _then_}
@@ -24,7 +25,7 @@ use Rattle.table.specs.Checks.{rowRefusal}
 use Rattle.table.specs.Planned.{checked, bestPlan, answering, given, planned}
 use Rattle.table.proofs.Plans.{unmarked}
 use Rattle.table.proofs.Checked.{checked-valid}
-use Rattle.table.proofs.Rivals.{planned-passed, only-none, same-best}
+use Rattle.table.proofs.Rivals.{planned-passed, same-best, MustHear, three-clash}
 
 -- ---- refusal 6
 
@@ -56,8 +57,8 @@ module _ (t : Table) (valid : Valid t) where
   pub all-day-clashes : (i j : ℕ) → AllDay t i → j < rows t → Clash (t .setting) (rowAt t i) (rowAt t j)
   all-day-clashes i j a l =
       rw (a .round, ← a .same)
-      (all-day-overlaps (t .setting .ticks) (rowAt t i .start) (rw (a .round) at (valid .row i (a .below) .window) .0)
-      (rowAt t j .start) (rowAt t j .end) (rw (a .round) at (valid .row j l .window)))
+      (overlap (all-day-overlaps (t .setting .ticks) (rowAt t i .start) (rw (a .round) at (valid .row i (a .below) .window) .0)
+      (rowAt t j .start) (rowAt t j .end) (rw (a .round) at (valid .row j l .window))))
 
   -- so a beacon that sends all day and is heard has its receiver to itself, in any labels that are a plan
   module _ (labels : List ℕ) (plan : Plan t labels) where
@@ -66,35 +67,17 @@ module _ (t : Table) (valid : Valid t) where
 
 -- ---- what calls give
 
--- row i must be heard
-pub record MustHear (t : Table) (i : ℕ) : Type 0 where
-  pub below : i < rows t
-  pub must : Must (rowAt t i .mark)
-
 module _ (t : Table) (before : List ℕ) (space : ℕ) (p : Passed (checked t before space)) where
   -- two beacons that send all day and must be heard leave no receiver to a third row that must be
   pub refused-8 : (i j m : ℕ) → i ≢ j → i ≢ m → j ≢ m → AllDay t i → AllDay t j → MustHear t i → MustHear t j → MustHear t m
       → planned t before space ≡ answering (answered NoPlan 0) before
-  unfolding given
-  refused-8 i j m d e f a b x y z = only-none t before space p no
-    where
-      no : (rival : List ℕ) → Plan t rival → ⊥
-      no rival plan =
-          apart (at rival i) (at rival j) (at rival m) (heard i x) (heard j y) (heard m z)
-          (own i j a (b .below) d (heard i x)) (own i m a (z .below) e (heard i x)) (own j m b (z .below) f (heard j y))
-        where
-          heard : (i : ℕ) → MustHear t i → (1 ≤ at rival i) × (at rival i ≤ 2)
-          heard i x = let a = plan .allowed i (x .below) in (omega (arith, a .must (x .must)), a .known)
-
-          own : (i j : ℕ) → AllDay t i → j < rows t → i ≢ j → (1 ≤ at rival i) × (at rival i ≤ 2) → at rival i ≢ at rival j
-          own i j a l d h = alone t (checked-valid t before space p .0) rival plan i j a l d (λ e. omega arith)
-
-          apart : (x y z : ℕ) → (1 ≤ x) × (x ≤ 2) → (1 ≤ y) × (y ≤ 2) → (1 ≤ z) × (z ≤ 2) → x ≢ y → x ≢ z → y ≢ z → ⊥
-          apart x y z a b c d e f = omega (arith, d, e, f)
+  refused-8 i j m d e f a b x y z =
+      let clashes = all-day-clashes t (checked-valid t before space p .0) in
+      three-clash t before space p i j m d e f x y z (clashes i j a (b .below)) (clashes i m a (z .below)) (clashes j m b (z .below))
 
 -- three of them in the shortest round
 abbrev example : Table
-example = tableOf (settingOf Round 2 noHours) (row 0 0 0 ∷ row 0 0 0 ∷ row 0 0 0 ∷ [])
+example = tableOf (settingOf Round 2 0 noHours) (row 0 0 0 ∷ row 0 0 0 ∷ row 0 0 0 ∷ [])
 
 -- "Three of them alone in a round, with mark 0, give labels 1 2 0": in a round of any R, with any starts
 pub three : (t : Table) (before : List ℕ) (space : ℕ) → Passed (checked t before space) → rows t ≡ 3

@@ -1,11 +1,13 @@
 -- Demand 3: the right answer is the best plan, and refusal 8 where there is none; whatever has demand 3's properties is the right answer; and the best plan depends on a table only through `Allowed` and `Clash`.
-use Prim.Native.Nat.{ℕ, _<_}
+use Prim.Native.Nat.{ℕ, _≤_, _<_}
 use mathlib.Core.Path.{_≡_, refl, ap, _∙_}
 use mathlib.Core.Logic.{_≢_, _↔_}
 use mathlib.Core.List.{List}
 use mathlib.Core.Option.{Option, none, some}
 use native.Mathlib.Omega.{arith}
 use borrow.Author.Tests.{eq-eqb, ne-eqb}
+use Rattle.basics.specs.Lists.{at}
+use Rattle.marks.specs.Marks.{Must}
 use Rattle.refusals.specs.declared.Answer.{Answer}
 use Rattle.labels.specs.Labels.{Best}
 use Rattle.labels.proofs.Best.{Passes, first-best, first-none, best-iff, assignment-iff}
@@ -116,3 +118,29 @@ same-best t u v w n mays clashes = go (bestPlan u) refl
     go : (o : Option (List ℕ)) → bestPlan u ≡ o → bestPlan t ≡ o
     go none e = no-plan t v .1 (λ a P. no-plan u w .0 e a (plans a .0 P))
     go (some a) e = best-plan t v a .1 (best-iff (λ l. (plans l .1, plans l .0)) (best-plan u w a .0 e))
+
+-- three rows that must be heard and clash with each other leave no plan: there are two receivers
+-- row i must be heard
+pub record MustHear (t : Table) (i : ℕ) : Type 0 where
+  pub below : i < rows t
+  pub must : Must (rowAt t i .mark)
+
+module _ (t : Table) (before : List ℕ) (space : ℕ) (p : Passed (checked t before space)) where
+  pub three-clash : (i j m : ℕ) → i ≢ j → i ≢ m → j ≢ m → MustHear t i → MustHear t j → MustHear t m
+      → Clash (t .setting) (rowAt t i) (rowAt t j) → Clash (t .setting) (rowAt t i) (rowAt t m) → Clash (t .setting) (rowAt t j) (rowAt t m)
+      → planned t before space ≡ answering (answered NoPlan 0) before
+  unfolding given
+  three-clash i j m d e f x y z a b c = only-none t before space p no
+    where
+      no : (rival : List ℕ) → Plan t rival → ⊥
+      no rival plan =
+          three (at rival i) (at rival j) (at rival m) (heard i x) (heard j y) (heard m z)
+          (λ q. plan .apart i j (x .below) (y .below) d (λ r. omega (arith, heard i x .0)) q a)
+          (λ q. plan .apart i m (x .below) (z .below) e (λ r. omega (arith, heard i x .0)) q b)
+          (λ q. plan .apart j m (y .below) (z .below) f (λ r. omega (arith, heard j y .0)) q c)
+        where
+          heard : (i : ℕ) → MustHear t i → (1 ≤ at rival i) × (at rival i ≤ 2)
+          heard i x = let a = plan .allowed i (x .below) in (omega (arith, a .must (x .must)), a .known)
+
+          three : (x y z : ℕ) → (1 ≤ x) × (x ≤ 2) → (1 ≤ y) × (y ≤ 2) → (1 ≤ z) × (z ≤ 2) → x ≢ y → x ≢ z → y ≢ z → ⊥
+          three x y z a b c d e f = omega (arith, d, e, f)

@@ -11,8 +11,9 @@ use Rattle.window.specs.declared.Kind.the-variants.{Round, Run}
 use Rattle.window.specs.declared.Row.{Row}
 use Rattle.window.specs.Hours.{hour}
 use Rattle.window.specs.Windows.{isWindow}
+use Rattle.window.specs.Gaps.{maxGap}
 use Rattle.refusals.specs.declared.Refusal.{Refusal}
-use Rattle.refusals.specs.declared.Refusal.the-variants.{Accepted, Lists, Rows, Ticks, Hours, Window, Mark}
+use Rattle.refusals.specs.declared.Refusal.the-variants.{Accepted, Lists, Rows, Ticks, Hours, Gap, Window, Mark}
 use Rattle.refusals.specs.Refusals.{asked, passes, _then_}
 use Rattle.table.specs.declared.Setting.{Setting}
 use Rattle.table.specs.declared.Looked.{Looked}
@@ -38,10 +39,14 @@ unfoldable pub hoursRefusal : Kind → ℕ → List (List ℕ) → Refusal
 hoursRefusal Round R hours = Accepted
 hoursRefusal Run R hours = asked (isHours hours R 0 && isHours hours R 1) Hours
 
--- checks 4 and 5
+-- "14, g above 600" (request 4 of paper 02)
+unfoldable pub gapRefusal : ℕ → Refusal
+gapRefusal g = asked (leb g maxGap) Gap
+
+-- checks 4 and 5, and 14 "looked at after 5"
 unfoldable pub settingRefusal : Setting → Refusal
-unfolding ticksRefusal hoursRefusal
-settingRefusal S = ticksRefusal (S .ticks) then hoursRefusal (S .kind) (S .ticks) (S .hours)
+unfolding ticksRefusal hoursRefusal gapRefusal
+settingRefusal S = ticksRefusal (S .ticks) then hoursRefusal (S .kind) (S .ticks) (S .hours) then gapRefusal (S .gap)
 
 -- "6: a window breaks the rules above", "Refusal 7 now begins at mark 6" (request 2 of paper 02): one row, "for 6 and then 7"
 unfoldable pub rowRefusal : Setting → Row → Refusal
@@ -64,7 +69,7 @@ unfoldable pub rowsLooked : Table → Looked
 unfolding lookFrom rowRefusal
 rowsLooked t = cond (isEven t) (lookFrom (rowCheck t) 0 (rows t)) (looked Lists 0)
 
--- checks 4 and 5, and then the rows for 6 and 7
+-- checks 4, 5 and 14, and then the rows for 6 and 7
 unfoldable pub tableLooked : Table → Looked
 unfolding settingRefusal rowsLooked
 tableLooked t = cond (passes (settingRefusal (t .setting))) (rowsLooked t) (looked (settingRefusal (t .setting)) 0)

@@ -11,6 +11,7 @@ use Rattle.window.specs.declared.Kind.{Kind}
 use Rattle.window.specs.declared.Kind.the-variants.{Round, Run}
 use Rattle.window.specs.declared.Row.{Row}
 use Rattle.window.specs.Hours.{hour}
+use Rattle.window.specs.Windows.{Overlap}
 use Rattle.window.specs.Former.{OverlapBefore3, isWindowBefore3}
 use Rattle.marks.specs.Marks.{maxMark}
 use Rattle.refusals.specs.declared.Refusal.{Refusal}
@@ -18,12 +19,32 @@ use Rattle.refusals.specs.declared.Refusal.the-variants.{Window, Mark}
 use Rattle.refusals.specs.Refusals.{asked, _then_}
 use Rattle.table.specs.declared.Setting.{Setting}
 use Rattle.table.specs.Tables.{Table, rows, rowAt, Allowed}
+use Rattle.table.specs.Checks.{ticksRefusal, hoursRefusal}
 use Rattle.table.specs.Planned.{Planned, given}
 
 -- What a call gives that passes all checks before 8, for a table whose plans are C: the best of them, or refusal 8 where there is none.
 pub record PlannedBy (C : List ℕ → Type 0) (before : List ℕ) (gave : Planned) : Type 0 where
   pub best : (labels : List ℕ) → Best C labels → gave ≡ given (some labels) before
   pub none : ((rival : List ℕ) → C rival → ⊥) → gave ≡ given none before
+
+-- ---- before request 4: a gap of 0
+
+-- two rows cannot be heard by one receiver: their windows overlap
+abbrev pub ClashBefore4 : Setting → Row → Row → Type 0
+ClashBefore4 S row row′ = Overlap (S .kind) (S .ticks) (row .start) (row .end) (row′ .start) (row′ .end)
+
+-- "Labels are a plan": request 4 replaced `Clash` alone
+abbrev pub PlanBefore4 : Table → List ℕ → Type 0
+PlanBefore4 t = Assignment (rows t) (λ i. Allowed (t .setting) (rowAt t i)) (λ i j. ClashBefore4 (t .setting) (rowAt t i) (rowAt t j))
+
+-- checks 4 and 5
+unfoldable pub settingRefusalBefore4 : Setting → Refusal
+unfolding ticksRefusal hoursRefusal
+settingRefusalBefore4 S = ticksRefusal (S .ticks) then hoursRefusal (S .kind) (S .ticks) (S .hours)
+
+-- "g of 0"
+abbrev pub NoGap : Table → Type 0
+NoGap t = t .setting .gap ≡ 0
 
 -- ---- before request 3: start and end differ
 

@@ -23,7 +23,7 @@ spaceBytes = 16384
 unfoldable pub spaceRefusal : ℕ → Refusal
 spaceRefusal n = asked (leb spaceBytes n) Space
 
--- "Planner's order: 1, 2, 3, 4, 5, then rows from 0, each for 6 and then 7"
+-- "Planner's order: 1, 2, 3, 4, 5, then rows from 0, each for 6 and then 7", with 14 "after 5"
 unfoldable pub checked : Table → List ℕ → ℕ → Refusal
 unfolding lengthsRefusal spaceRefusal tableLooked
 checked t labels space = listsRefusal t labels then spaceRefusal space then tableLooked t .refusal
@@ -77,7 +77,7 @@ planCall t labels space =
 
 -- ---- demand 3
 
--- Demand 3 of an answer and labels for a table that passes all checks before 8. "A rival is any list of labels, one per row, that is a plan for the same table, R, marks and receiver hours."
+-- Demand 3 of an answer and labels for a table that passes all checks before 8. "A rival is any list of labels, one per row, that is a plan for the same table, R, marks and receiver hours", and g: "Labels that break the gap are no plan, for .. rivals too" (request 4 of paper 02).
 pub record Demand3 (t : Table) (answer : Answer) (labels : List ℕ) : Type 0 where
   -- "The planner gives a plan exactly when there is a rival,
   pub given : (answer .refusal ≡ Accepted) ↔ ((rival : List ℕ) × Plan t rival)

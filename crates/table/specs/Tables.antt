@@ -16,14 +16,15 @@ use Rattle.window.specs.declared.Kind.the-variants.{Round, Run}
 use Rattle.window.specs.declared.Row.{Row}
 use Rattle.window.specs.Rows.{row, startsOf, endsOf, marksOf}
 use Rattle.window.specs.Hours.{hour}
-use Rattle.window.specs.Windows.{Overlap, Window, overlaps}
+use Rattle.window.specs.Windows.{Window}
+use Rattle.window.specs.Gaps.{maxGap, TooClose, tooClose}
 use Rattle.table.specs.declared.Setting.{Setting}
 
 -- ---- what is lent
 
--- a round or a run of R ticks, in a run with the receivers' open hours
-abbrev pub settingOf : Kind → ℕ → List (List ℕ) → Setting
-settingOf kind ticks hours = record { kind = kind; ticks = ticks; hours = hours }
+-- a round or a run of R ticks, with the gap g (request 4 of paper 02), and in a run the receivers' open hours
+abbrev pub settingOf : Kind → ℕ → ℕ → List (List ℕ) → Setting
+settingOf kind ticks gap hours = record { kind = kind; ticks = ticks; gap = gap; hours = hours }
 
 -- "The table is lent as three lists, starts, ends and marks"
 pub record Table : Type 0 where
@@ -66,9 +67,9 @@ pub record Allowed (S : Setting) (row : Row) (label : ℕ) : Type 0 where
   pub receiver-2 : Receiver2Only (row .mark) → label ≢ 1
   pub hours : Open (S .kind) (S .hours) row label
 
--- two rows cannot be heard by one receiver: their windows overlap
+-- Two rows cannot be heard by one receiver: their windows overlap or have fewer than g ticks between them. `Plan` asks it of different rows: "A window is never too close to itself."
 abbrev pub Clash : Setting → Row → Row → Type 0
-Clash S row row′ = Overlap (S .kind) (S .ticks) (row .start) (row .end) (row′ .start) (row′ .end)
+Clash S row row′ = TooClose (S .kind) (S .ticks) (S .gap) (row .start) (row .end) (row′ .start) (row′ .end)
 
 -- Labels are a plan: a two-track assignment as report CS-TR-149-88 means it (sections IV and VI, with a chosen subset). Unlike the report, paper 01 does not
 -- take endpoints as distinct (touching windows do not overlap, equal windows do), nor the chosen subset, the must rows, as fitting.
@@ -80,6 +81,7 @@ Plan t = Assignment (rows t) (λ i. Allowed (t .setting) (rowAt t i)) (λ i j. C
 pub record ValidSetting (S : Setting) : Type 0 where
   pub ticks-least : 2 ≤ S .ticks
   pub ticks-most : S .ticks ≤ 43200
+  pub gap-most : S .gap ≤ maxGap
 
 pub record ValidRow (S : Setting) (row : Row) : Type 0 where
   pub window : Window (S .kind) (S .ticks) (row .start) (row .end)
@@ -104,8 +106,8 @@ unfolding markAllows
 isAllowed S row label = leb label 2 && markAllows (row .mark) label && isOpen (S .kind) (S .hours) row label
 
 unfoldable pub clashes : Setting → Row → Row → Bool
-unfolding overlaps
-clashes S row row′ = overlaps (row .start) (row .end) (row′ .start) (row′ .end)
+unfolding tooClose
+clashes S row row′ = tooClose (S .kind) (S .ticks) (S .gap) (row .start) (row .end) (row′ .start) (row′ .end)
 
 -- two rows with these labels are not on one receiver, or do not clash
 unfoldable pub isApart : Setting → Row → ℕ → Row → ℕ → Bool

@@ -2,13 +2,14 @@
 ghost use mathlib.Core.Path.{_≡_};
 ghost use Prim.Native.Nat.{_<_};
 ghost use Rattle.table.specs.Tables.{table};
-ghost use Rattle.table.specs.Checks.{lengthsRefusal, ticksRefusal, isHours, hoursRefusal, settingRefusal, rowRefusal, looked, rowsLooked, tableLooked};
+ghost use Rattle.table.specs.Checks.{lengthsRefusal, ticksRefusal, isHours, hoursRefusal, gapRefusal, settingRefusal, rowRefusal, looked, rowsLooked, tableLooked};
 use crate::Looked;
 use crate::Setting;
 use basics::MAX_ROWS;
 use marks::MAX_MARK;
 use refusals::Refusal;
 use window::Kind;
+use window::MAX_GAP;
 use window::Row;
 
 // Checks 1 and 2, by the lengths of the four lists.
@@ -70,7 +71,17 @@ fn check_hours(kind: Kind, ticks: u16, hours: [[u16; 2]; 2]) -> Refusal
     Refusal::Accepted
 }
 
-// Checks 4 and 5.
+// Check 14.
+fn check_gap(gap: u16) -> Refusal
+    ensures { λ r. ⌜ r ≡ gapRefusal gap ⌝ }
+{
+    if MAX_GAP < gap {
+        return Refusal::Gap;
+    }
+    Refusal::Accepted
+}
+
+// Checks 4, 5 and 14.
 pub fn check_setting(setting: Setting) -> Refusal
     ensures { λ r. ⌜ r ≡ settingRefusal setting ⌝ }
 {
@@ -80,7 +91,11 @@ pub fn check_setting(setting: Setting) -> Refusal
         return refusal;
     }
     let kind = setting.kind;
-    check_hours(kind, ticks, crate::hours_in(setting))
+    let refusal2 = check_hours(kind, ticks, crate::hours_in(setting));
+    if refusals::number(refusal2) != 0 {
+        return refusal2;
+    }
+    check_gap(setting.gap)
 }
 
 // Checks 6 and 7 of one row.
@@ -124,7 +139,7 @@ pub fn check_rows(setting: Setting, starts: &[u16], ends: &[u16], marks: &[u8]) 
     looked_at(Refusal::Accepted, i)
 }
 
-// Checks 4 and 5, and then the rows for 6 and 7.
+// Checks 4, 5 and 14, and then the rows for 6 and 7.
 pub fn check_table(setting: Setting, starts: &[u16], ends: &[u16], marks: &[u8]) -> Looked
     ensures { λ r. ⌜ r ≡ tableLooked (table setting (now (starts .entry)) (now (ends .entry)) (now (marks .entry))) ⌝ }
 {

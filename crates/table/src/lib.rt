@@ -8,10 +8,11 @@ use window::Row;
 pub mod checks;
 pub mod plan;
 
-// What all rows of a table share: a round or a run, its ticks and the receivers' open hours, which count in a run alone.
+// What all rows of a table share: a round or a run, its ticks, the ticks that a receiver needs between two windows, and the receivers' open hours, which count in a run alone.
 pub struct Setting {
     pub kind: Kind,
     pub ticks: u16,
+    pub gap: u16,
     pub hours: [[u16; 2]; 2],
 }
 
@@ -22,10 +23,15 @@ pub struct Looked {
 }
 
 // Makes a setting. Its field of arrays is written here and read in `hours_in`, and nowhere else: these two are proved by a walk of their code.
-pub fn setting_of(kind: Kind, ticks: u16, hours: [[u16; 2]; 2]) -> Setting
-    ensures { λ r. ⌜ r ≡ settingOf kind ticks hours ⌝ }
+pub fn setting_of(kind: Kind, ticks: u16, gap: u16, hours: [[u16; 2]; 2]) -> Setting
+    ensures { λ r. ⌜ r ≡ settingOf kind ticks gap hours ⌝ }
 {
-    Setting { kind, ticks, hours }
+    Setting {
+        kind,
+        ticks,
+        gap,
+        hours,
+    }
 }
 
 // The receivers' open hours.

@@ -43,11 +43,20 @@ pub fn is_allowed(setting: Setting, row: Row, label: u8) -> bool
     is_open(setting, row, label)
 }
 
-// Whether two rows cannot be heard by one receiver. The setting does not matter yet: windows that pass check 6 overlap alike in a round and in a run.
+// Whether two rows cannot be heard by one receiver: their windows are too close.
 pub fn is_clash(setting: Setting, row: Row, row2: Row) -> bool
     ensures { λ r. ⌜ r ≡ clashes setting row row2 ⌝ }
 {
-    window::overlap(row.start, row.end, row2.start, row2.end)
+    let kind = setting.kind;
+    window::too_close(
+        kind,
+        setting.ticks,
+        setting.gap,
+        row.start,
+        row.end,
+        row2.start,
+        row2.end,
+    )
 }
 
 // Whether two rows with these labels are not on one receiver, or do not clash.

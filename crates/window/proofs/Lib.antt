@@ -2,3 +2,4 @@
 pub mod Circle
 pub mod Meaning
 pub mod AllDay
+pub mod Gaps

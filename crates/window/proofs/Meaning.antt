@@ -63,17 +63,17 @@ next-below R t h = rw (ne-eqb (suc t) R (λ e. omega arith))
 next-last : (R t : ℕ) → suc t ≡ R → next Round R t ≡ 0
 next-last R t h = rw (eq-eqb (suc t) R h)
 
-walk-run : (R s k : ℕ) → walk Run R s k ≡ s + k
+pub walk-run : (R s k : ℕ) → walk Run R s k ≡ s + k
 walk-run R s zero = omega arith
 walk-run R s (suc k) = omega (arith, walk-run R s k)
 
 -- up to the end of the round the walk counts on,
-walk-on : (R s k : ℕ) → s + k < R → walk Round R s k ≡ s + k
+pub walk-on : (R s k : ℕ) → s + k < R → walk Round R s k ≡ s + k
 walk-on R s zero h = omega arith
 walk-on R s (suc k) h = ap (next Round R) (walk-on R s k (omega arith)) ∙ next-below R (s + k) (omega arith) ∙ omega arith
 
 -- and then from 0
-walk-past : (R s j : ℕ) → s < R → j < R → walk Round R s (j + (R - s)) ≡ j
+pub walk-past : (R s j : ℕ) → s < R → j < R → walk Round R s (j + (R - s)) ≡ j
 walk-past R s zero h l = go (R - s) refl
   where
     go : (d : ℕ) → R - s ≡ d → walk Round R s (0 + d) ≡ 0
@@ -84,6 +84,12 @@ walk-past R s zero h l = go (R - s) refl
 walk-past R s (suc j) h l =
     let z : suc j + (R - s) ≡ suc (j + (R - s)) = omega arith in
     rw z (ap (next Round R) (walk-past R s j h (omega arith)) ∙ next-below R j l)
+
+-- the tick after so many steps, on the second way round
+pub walk-round : (R s k : ℕ) → s < R → R - s ≤ k → k < R - s + R → walk Round R s k ≡ k - (R - s)
+walk-round R s k h l m =
+    let z : k - (R - s) + (R - s) ≡ k = omega arith in
+    sym (ap (walk Round R s) z) ∙ walk-past R s (k - (R - s)) h (omega arith)
 
 -- up to the end of a window that does not wrap the walk counts on, in a run and in a round
 straight : (kind : Kind) (R s e : ℕ) → Window kind R s e → (k : ℕ) → s + k ≤ e → walk kind R s k ≡ s + k
@@ -108,20 +114,14 @@ module _ (R s e : ℕ) (w : Window Round R s e) {t : ℕ} (ht : t < R) (h : e �
       }
     where
       go : (k : ℕ) {b : Bool} → 1 ≤ k → k ≤ t + (R - s) → Test (R - s) k b → walk Round R s k ≢ e
-      go k m l (pass n) q =
-          let p : walk Round R s (k - (R - s) + (R - s)) ≡ k - (R - s) = walk-past R s (k - (R - s)) (w .0) (omega arith) in
-          let z : k - (R - s) + (R - s) ≡ k = omega arith in
-          omega (arith, sym (ap (walk Round R s) z) ∙ p)
+      go k m l (pass n) q = omega (arith, walk-round R s k (w .0) n (omega arith))
       go k m l (fail n) q = omega (arith, walk-on R s k (omega arith))
 
   wrap-back : Covers Round R s e t → In s e t
   wrap-back x = go (test (R - s) (x .steps))
     where
       past : x .steps < e + (R - s) → R - s ≤ x .steps → In s e t
-      past l m =
-          let p : walk Round R s (x .steps - (R - s) + (R - s)) ≡ x .steps - (R - s) = walk-past R s (x .steps - (R - s)) (w .0) (omega arith) in
-          let z : x .steps - (R - s) + (R - s) ≡ x .steps = omega arith in
-          early h (omega (arith, sym (ap (walk Round R s) z) ∙ p, x .reached))
+      past l m = early h (omega (arith, walk-round R s (x .steps) (w .0) m (omega arith), x .reached))
 
       bounded : {b : Bool} → R - s ≤ x .steps → Test (e + (R - s)) (x .steps) b → In s e t
       bounded m (pass l) = absurd (x .before (e + (R - s)) (omega arith) l (walk-past R s e (w .0) (w .1)))
@@ -215,9 +215,8 @@ overlaps-iff kind R s e s′ e′ v w = (there, back)
         (share (in-iff kind R s e v (o .below) .1 (o .in-first)) (in-iff kind R s′ e′ w (o .below) .1 (o .in-second)))
 
 -- two windows with one start overlap
-pub overlaps-start : (s e e′ : ℕ) → overlaps s e s e′ ≡ true
-unfolding overlaps
-overlaps-start s e e′ = rw (in-covers s e s (start-in s e)) refl
+pub overlap-start : (kind : Kind) (R s e e′ : ℕ) → Window kind R s e → Window kind R s e′ → Overlap kind R s e s e′
+overlap-start kind R s e e′ v w = record { tick = s; below = window-start kind R s e v; in-first = covers-start kind R s e v; in-second = covers-start kind R s e′ w }
 
 -- ---- what the functions promise, from what they compute
 
@@ -248,7 +247,7 @@ module _ (R s e t : ℕ) (h : Ticks R s t) where
 
 -- the length of a window, by which of its ends comes first
 module _ (kind : Kind) (R s e : ℕ) (w : Window kind R s e) where
-  ticks-straight : s < e → ticksIn kind R s e ≡ e - s
+  pub ticks-straight : s < e → ticksIn kind R s e ≡ e - s
   unfolding ticksIn
   ticks-straight = go kind w
     where
@@ -256,7 +255,7 @@ module _ (kind : Kind) (R s e : ℕ) (w : Window kind R s e) where
       go Round w h = rw (ne-eqb s e (λ q. omega arith)) (sym (distance-after R s e (record { start-below = w .0; tick-below = w .1 }) (le-of-lt h)))
       go Run w h = refl
 
-  ticks-wrapped : e ≤ s → ticksIn kind R s e + s ≡ e + R
+  pub ticks-wrapped : e ≤ s → ticksIn kind R s e + s ≡ e + R
   unfolding ticksIn
   ticks-wrapped = go kind w
     where

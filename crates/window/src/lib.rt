@@ -1,10 +1,14 @@
-// Ticks, windows and rows: how far a tick lies after a start, which tick comes next, whether a window is proper, whether it covers a tick, whether two windows overlap.
+// Ticks, windows and rows: how far a tick lies after a start, which tick comes next, whether a window is proper, whether it covers a tick, whether two windows overlap or are too close.
 ghost use mathlib.Core.Path.{_≡_};
 ghost use mathlib.Core.Logic.{_↔_};
 ghost use mathlib.Core.Bool.{true};
 ghost use Prim.Native.Nat.{ℕ, _<_};
 ghost use Rattle.window.specs.Ticks.{Ticks, distance};
 ghost use Rattle.window.specs.Windows.{next, Covers, Overlap, Window, isWindow, covers, ticksIn, liesIn, overlaps};
+ghost use Rattle.window.specs.Gaps.{TooClose, isNear, reaches, tooClose};
+
+// "14, g above 600": the longest gap.
+pub const MAX_GAP: u16 = 600;
 
 // A round is a day that repeats; a run is one stretch of time.
 pub enum Kind {
@@ -124,4 +128,47 @@ pub fn overlap(start: u16, end: u16, start2: u16, end2: u16) -> bool
         return true;
     }
     covers_tick(start2, end2, start)
+}
+
+// Whether fewer than `gap` ticks lie between the end of a window and the start of another. Of any numbers, so that the sums take 32 bits.
+fn is_near(kind: Kind, ticks: u16, gap: u16, end: u16, start: u16) -> bool
+    ensures { λ r. ⌜ r ≡ isNear kind ticks gap end start ⌝ }
+{
+    let reach = (end as u32) + (gap as u32);
+    if end <= start {
+        return (start as u32) < reach;
+    }
+    match kind {
+        Kind::Round => (start as u32) + (ticks as u32) < reach,
+        Kind::Run => false,
+    }
+}
+
+// Whether a window, or one of the `gap` ticks after it, is at the tick.
+fn reaches_tick(kind: Kind, ticks: u16, gap: u16, start: u16, end: u16, tick: u16) -> bool
+    ensures { λ r. ⌜ r ≡ reaches kind ticks gap start end tick ⌝ }
+{
+    if covers_tick(start, end, tick) {
+        return true;
+    }
+    is_near(kind, ticks, gap, end, tick)
+}
+
+// Whether two windows overlap or have fewer than `gap` ticks between them. Of windows that fail check 6 it is what `tooClose` computes, and says nothing about ticks.
+pub fn too_close(
+    kind: Kind,
+    ticks: u16,
+    gap: u16,
+    start: u16,
+    end: u16,
+    start2: u16,
+    end2: u16,
+) -> bool
+    ensures computed { λ r. ⌜ r ≡ tooClose kind ticks gap start end start2 end2 ⌝ }
+    ensures meaning { λ r. ⌜ (Window kind ticks start end → Window kind ticks start2 end2 → (r ≡ true) ↔ TooClose kind ticks gap start end start2 end2) ⌝ }
+{
+    if reaches_tick(kind, ticks, gap, start, end, start2) {
+        return true;
+    }
+    reaches_tick(kind, ticks, gap, start2, end2, start)
 }

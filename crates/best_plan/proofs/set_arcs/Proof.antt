@@ -32,7 +32,9 @@ row-at-requires c κs =
     record { each-end = v .each-end; each-mark = v .each-mark; below = c .loop-test .taken }
 
 arc-of-requires : tie.Need-arc-of-requires Inv-loop μ-loop
-arc-of-requires c κs = rw (c .row-at .ensures) (c .before .before .before .before .before .before .before .before .before .pre .0 .row (c .before .before .loop .i) (c .before .loop-test .taken))
+arc-of-requires c κs =
+    let valid = c .before .before .before .before .before .before .before .before .before .pre .0 in
+    rw (c .row-at .ensures) (record { setting = valid .setting; valid = valid .row (c .before .before .loop .i) (c .before .loop-test .taken) })
 
 mul-arc-starts : tie.Need-mul-arc-starts Inv-loop μ-loop
 mul-arc-starts c = omega (arith, c .before .before .before .before .before .before .before .before .before .before .pre .1 .each-start)

@@ -89,7 +89,7 @@ returns-2 : tie.Need-returns-2
 returns-2 c =
     let g = c .before .before .before .before .before .before .before .before .before .before .before .before .before .before .before .before .before .before .before .before .before .before .before .before .before .before .before .before .before .before .before .before .before .before in
     c .before .before .before .before .before .before .reply-table .ensures
-    ∙ reader-accepted (g .args .tape .now) (g .pre) (c .before .before .before .before .before .before .before .before .before .before .before .before .before .before .before .before .before .before .before .before .before .before .before .read-fleet .ensures .0) (g .args .space .now) (sym (c .before .before .before .before .before .before .before .before .before .before .before .before .before .before .before .before .number .ensures) ∙ c .before .before .before .before .before .before .before .before .before .before .before .before .before .before .before .if1 .left) (c .before .before .before .before .before .before .before .before .before .before .before .before .before .setting-of .ensures ∙ ap (settingOf _ _) (c .before .before .before .before .before .before .before .before .before .before .before .before .before .before .hours-in .ensures))
+    ∙ reader-accepted (g .args .tape .now) (g .pre) (c .before .before .before .before .before .before .before .before .before .before .before .before .before .before .before .before .before .before .before .before .before .before .before .read-fleet .ensures .0) (g .args .space .now) (sym (c .before .before .before .before .before .before .before .before .before .before .before .before .before .before .before .before .number .ensures) ∙ c .before .before .before .before .before .before .before .before .before .before .before .before .before .before .before .if1 .left) (c .before .before .before .before .before .before .before .before .before .before .before .before .before .setting-of .ensures ∙ ap (settingOf _ _ _) (c .before .before .before .before .before .before .before .before .before .before .before .before .before .before .hours-in .ensures))
 
 pub reply-lent-spec : {M : Type 1} → statement M
 reply-lent-spec =

@@ -4,12 +4,12 @@ use borrow.Author.Needs.{needs}
 use Rattle.table.proofs.plan.is_clash.Statement.{statement}
 use Rattle.table.proofs.plan.is_clash.Tie as tie
 
-overlap-requires : tie.Need-overlap-requires
-overlap-requires c κs = search needs
+too-close-requires : tie.Need-too-close-requires
+too-close-requires c κs = search needs
 
 returns : tie.Need-returns
 unfolding clashes
-returns c = c .overlap .ensures .0
+returns c = c .too-close .ensures .0
 
 pub is-clash-spec : {M : Type 1} → statement M
-is-clash-spec = tie.close (tie.spec overlap-requires returns)
+is-clash-spec = tie.close (tie.spec too-close-requires returns)
