@@ -2,23 +2,26 @@
 ghost use mathlib.Core.Path.{_≡_};
 ghost use mathlib.Core.Bool.{false};
 ghost use mathlib.Core.Logic.{_↔_, _≢_};
+use crate::clashes::one;
 
 // What the search found. `answer` is 0 where there is no plan, else one more than the most that a plan hears.
 pub struct Found {
     pub answer: u8,
     // the labels of the first of the plans that hear most, and 0 after the last row; all 0 where there is no plan
     pub labels: [u8; 8],
+    // the number of that label list (`judge`); 0 where there is no plan
+    pub first: u32,
     // how many plans there are, and how many of them hear most
     pub plans: u32,
     pub best: u32,
 }
 
-// Rows that have been given labels: whether they obey the rules, how many are heard, and the ticks on which each receiver is busy.
+// Rows that have been given labels: whether they obey the rules, how many are heard, and the set of rows of each receiver.
 struct Receivers {
     fits: bool,
     heard: u8,
-    busy1: u64,
-    busy2: u64,
+    rows1: u8,
+    rows2: u8,
 }
 
 // What the search has seen so far; `first` is the number of the first of the best label lists.
@@ -29,34 +32,34 @@ struct Tally {
     best: u32,
 }
 
-// A row may be heard by a receiver if its permission has the receiver's bit and the receiver is busy on none of its ticks.
-fn may_hear(busy: u64, set: u64, permission: u8, receiver: u8) -> bool {
+// A row may be heard by a receiver if its permission has the receiver's bit and it clashes with none of the receiver's rows.
+fn may_hear(rows: u8, clashes: u8, permission: u8, receiver: u8) -> bool {
     if permission & receiver == 0 {
         return false;
     }
-    busy & set == 0
+    rows & clashes == 0
 }
 
-// One row more, with the label that stands at `place` in "1 comes before 2, and 2 before 0".
-fn with_row(p: Receivers, set: u64, permission: u8, place: u32) -> Receivers {
+// One row more, as the set `row`, with the label that stands at `place` in "1 comes before 2, and 2 before 0".
+fn with_row(p: Receivers, row: u8, clashes: u8, permission: u8, place: u32) -> Receivers {
     match place {
         0 => Receivers {
-            fits: may_hear(p.busy1, set, permission, 2),
+            fits: may_hear(p.rows1, clashes, permission, 2),
             heard: std::num::wrapping_add_u8(p.heard, 1),
-            busy1: p.busy1 | set,
-            busy2: p.busy2,
+            rows1: p.rows1 | row,
+            rows2: p.rows2,
         },
         1 => Receivers {
-            fits: may_hear(p.busy2, set, permission, 4),
+            fits: may_hear(p.rows2, clashes, permission, 4),
             heard: std::num::wrapping_add_u8(p.heard, 1),
-            busy1: p.busy1,
-            busy2: p.busy2 | set,
+            rows1: p.rows1,
+            rows2: p.rows2 | row,
         },
         _ => Receivers {
             fits: permission & 1 != 0,
             heard: p.heard,
-            busy1: p.busy1,
-            busy2: p.busy2,
+            rows1: p.rows1,
+            rows2: p.rows2,
         },
     }
 }
@@ -84,22 +87,19 @@ fn lists(rows: usize) -> u32 {
     }
 }
 
-fn set_of(sets: &[u64; 8], row: usize) -> u64 {
-    if row < 8 { sets[row] } else { 0 }
-}
-
-fn permission_of(permissions: &[u8; 8], row: usize) -> u8 {
-    if row < 8 { permissions[row] } else { 0 }
+// What a list has of a row.
+fn entry(list: &[u8; 8], row: usize) -> u8 {
+    if row < 8 { list[row] } else { 0 }
 }
 
 // The label list of a number: its digits to base 3 are the places of the labels in the order, the last row's digit the lowest.
 // So the numbers rise as the lists come in paper 01's order. The answer is 0 for no plan, else one more than the list hears.
-fn judge(rows: usize, number: u32, sets: &[u64; 8], permissions: &[u8; 8]) -> u8 {
+pub fn judge(rows: usize, number: u32, clashes: &[u8; 8], permissions: &[u8; 8]) -> u8 {
     let mut p = Receivers {
         fits: true,
         heard: 0,
-        busy1: 0,
-        busy2: 0,
+        rows1: 0,
+        rows2: 0,
     };
     let mut rest = number;
     let mut row = rows;
@@ -107,8 +107,9 @@ fn judge(rows: usize, number: u32, sets: &[u64; 8], permissions: &[u8; 8]) -> u8
         row -= 1;
         p = with_row(
             p,
-            set_of(sets, row),
-            permission_of(permissions, row),
+            one(row),
+            entry(clashes, row),
+            entry(permissions, row),
             rest % 3,
         );
         if !p.fits {
@@ -120,7 +121,7 @@ fn judge(rows: usize, number: u32, sets: &[u64; 8], permissions: &[u8; 8]) -> u8
 }
 
 // The labels of the list of a number.
-fn labels(rows: usize, number: u32) -> [u8; 8] {
+pub fn labels(rows: usize, number: u32) -> [u8; 8] {
     let mut list = [0u8; 8];
     let mut rest = number;
     let mut row = rows;
@@ -172,8 +173,8 @@ fn best_labels(rows: usize, s: Tally) -> [u8; 8] {
     labels(rows, s.first)
 }
 
-// Tries every label list of the first `rows` rows, at most 7, of which each has a set of ticks and a permission.
-pub fn search(rows: usize, sets: &[u64; 8], permissions: &[u8; 8]) -> Found {
+// Tries every label list of the first `rows` rows, at most 7, of which each has a set of rows that clash with it and a permission.
+pub fn search(rows: usize, clashes: &[u8; 8], permissions: &[u8; 8]) -> Found {
     let mut s = Tally {
         answer: 0,
         first: 0,
@@ -181,12 +182,13 @@ pub fn search(rows: usize, sets: &[u64; 8], permissions: &[u8; 8]) -> Found {
         best: 0,
     };
     for number in 0..lists(rows) {
-        s = with_list(s, number, judge(rows, number, sets, permissions));
+        s = with_list(s, number, judge(rows, number, clashes, permissions));
     }
     let labels = best_labels(rows, s);
     Found {
         answer: s.answer,
         labels: labels,
+        first: s.first,
         plans: s.plans,
         best: s.best,
     }

@@ -16,7 +16,7 @@ use window::Kind;
 fn three_at(group: Group, ticks: u16, starts: &[u16]) -> Group {
     with_case(
         group,
-        in_round(ticks, starts, starts, &[0, 0, 0], 0, &[1, 2, 0]),
+        in_round(ticks, 0, starts, starts, &[0, 0, 0], 0, &[1, 2, 0]),
     )
 }
 
@@ -24,7 +24,7 @@ fn three_at(group: Group, ticks: u16, starts: &[u16]) -> Group {
 fn three(group: Group, marks: &[u8], number: u8, labels: &[u8]) -> Group {
     with_case(
         group,
-        in_round(10, &[0, 4, 9], &[0, 4, 9], marks, number, labels),
+        in_round(10, 0, &[0, 4, 9], &[0, 4, 9], marks, number, labels),
     )
 }
 
@@ -50,7 +50,7 @@ fn three_alone(group: Group) -> Group {
 fn beside_two(group: Group, marks: &[u8], number: u8, labels: &[u8]) -> Group {
     with_case(
         group,
-        in_round(10, &[4, 0, 6], &[4, 2, 8], marks, number, labels),
+        in_round(10, 0, &[4, 0, 6], &[4, 2, 8], marks, number, labels),
     )
 }
 
@@ -60,6 +60,7 @@ fn beside_four(group: Group, mark: u8, labels: &[u8]) -> Group {
         group,
         in_round(
             10,
+            0,
             &[4, 0, 2, 4, 6],
             &[4, 3, 5, 7, 9],
             &[mark, 0, 0, 0, 0],
@@ -81,14 +82,22 @@ fn beside_others(group: Group) -> Group {
     // round 2: 0–0, 0–1, 1–0
     with_case(
         g,
-        in_round(2, &[0, 0, 1], &[0, 1, 0], &[0, 0, 0], 0, &[1, 2, 2]),
+        in_round(2, 0, &[0, 0, 1], &[0, 1, 0], &[0, 0, 0], 0, &[1, 2, 2]),
     )
 }
 
 // Two all-day must rows, 4–4 and 7–7 in a round of 10 ticks, and a third row: it is not heard, and "any third must row" has no plan.
 fn third(group: Group, start: u16, end: u16) -> Group {
-    let may = in_round(10, &[4, 7, start], &[4, 7, end], &[1, 1, 0], 0, &[1, 2, 0]);
-    let must = in_round(10, &[4, 7, start], &[4, 7, end], &[1, 1, 1], 8, &[]);
+    let may = in_round(
+        10,
+        0,
+        &[4, 7, start],
+        &[4, 7, end],
+        &[1, 1, 0],
+        0,
+        &[1, 2, 0],
+    );
+    let must = in_round(10, 0, &[4, 7, start], &[4, 7, end], &[1, 1, 1], 8, &[]);
     with_case(with_case(group, may), must)
 }
 
@@ -113,8 +122,8 @@ fn below_ticks(group: Group) -> Group {
     g = round_row(g, 100, 100, 0, 6, &[]);
     g = round_row(g, 100, 100, 1, 6, &[]);
     g = round_row(g, 65535, 65535, 0, 6, &[]);
-    g = with_case(g, in_round(2, &[2], &[2], &[0], 6, &[]));
-    with_case(g, in_round(43200, &[43200], &[43200], &[0], 6, &[]))
+    g = with_case(g, in_round(2, 0, &[2], &[2], &[0], 6, &[]));
+    with_case(g, in_round(43200, 0, &[43200], &[43200], &[0], 6, &[]))
 }
 
 // "A run refuses it as before."
@@ -133,9 +142,9 @@ fn in_order(group: Group) -> Group {
     g = round_row(g, 99, 99, 6, 7, &[]);
     g = round_row(g, 0, 0, 255, 7, &[]);
     g = run_row(g, 50, 50, 6, 6, &[]);
-    g = with_case(g, in_round(10, &[4, 10], &[4, 10], &[0, 0], 6, &[]));
-    g = with_case(g, in_round(10, &[4, 10], &[4, 10], &[6, 0], 7, &[]));
-    with_case(g, in_round(10, &[10, 4], &[10, 4], &[0, 6], 6, &[]))
+    g = with_case(g, in_round(10, 0, &[4, 10], &[4, 10], &[0, 0], 6, &[]));
+    g = with_case(g, in_round(10, 0, &[4, 10], &[4, 10], &[6, 0], 7, &[]));
+    with_case(g, in_round(10, 0, &[10, 4], &[10, 4], &[0, 6], 6, &[]))
 }
 
 // ---- the plan tape writer
@@ -145,6 +154,7 @@ fn taped(group: Group, end: u16, labels: &[u8], bytes: usize, number: u8, tape: 
     let right = is_taped(
         Kind::Round,
         10,
+        0,
         [[0, 0], [0, 0]],
         &[4, 6, 9],
         &[4, end, 9],
@@ -186,6 +196,7 @@ fn offered(group: Group, kind: Kind, start: u16, mark: u8, number: u8) -> Group 
     let right = is_taped(
         kind,
         10,
+        0,
         [[0, 10], [0, 10]],
         &[start],
         &[start],

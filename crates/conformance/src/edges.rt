@@ -1,4 +1,4 @@
-// The edges of paper 01: R, rows, working space, ends, marks, hours, lists of unequal lengths.
+// The edges of papers 01 and 02: R, the gap, rows, working space, ends, marks, hours, lists of unequal lengths.
 use trial_calls::LENT_BYTES;
 use trial_calls::first_bytes;
 use trial_calls::first_words;
@@ -10,24 +10,34 @@ use trial_report::no_cases;
 use trial_report::with_case;
 use window::Kind;
 
-// ---- R
+// ---- R and the gap
 
 // A table of no rows, in a round and in a run that is open all the time.
-fn no_rows(group: Group, ticks: u16, number: u8) -> Group {
-    let g = with_case(group, in_round(ticks, &[], &[], &[], number, &[]));
-    let right = in_run(ticks, [[0, ticks], [0, ticks]], &[], &[], &[], number, &[]);
+fn no_rows(group: Group, ticks: u16, gap: u16, number: u8) -> Group {
+    let g = with_case(group, in_round(ticks, gap, &[], &[], &[], number, &[]));
+    let right = in_run(
+        ticks,
+        gap,
+        [[0, ticks], [0, ticks]],
+        &[],
+        &[],
+        &[],
+        number,
+        &[],
+    );
     with_case(g, right)
 }
 
 // The last tick of the longest day, and the rest of it: touching. With tick 0 in the first, they overlap.
 fn longest_round(end: u16, labels: &[u8]) -> bool {
-    in_round(43200, &[43199, 0], &[end, 43199], &[0, 0], 0, labels)
+    in_round(43200, 0, &[43199, 0], &[end, 43199], &[0, 0], 0, labels)
 }
 
 // The whole of the longest run, and its last tick.
 fn longest_run() -> bool {
     in_run(
         43200,
+        0,
         [[0, 43200], [0, 43200]],
         &[0, 43199],
         &[43200, 43200],
@@ -38,15 +48,25 @@ fn longest_run() -> bool {
 }
 
 fn ticks(group: Group) -> Group {
-    let mut g = no_rows(group, 0, 4);
-    g = no_rows(g, 1, 4);
-    g = no_rows(g, 2, 0);
-    g = no_rows(g, 43200, 0);
-    g = no_rows(g, 43201, 4);
-    g = no_rows(g, 65535, 4);
+    let mut g = no_rows(group, 0, 0, 4);
+    g = no_rows(g, 1, 0, 4);
+    g = no_rows(g, 2, 0, 0);
+    g = no_rows(g, 43200, 0, 0);
+    g = no_rows(g, 43201, 0, 4);
+    g = no_rows(g, 65535, 0, 4);
     g = with_case(g, longest_round(0, &[1, 1]));
     g = with_case(g, longest_round(1, &[1, 2]));
     with_case(g, longest_run())
+}
+
+// "14, g above 600, looked at after 5", so that an R that is refused comes before it.
+fn gaps(group: Group) -> Group {
+    let mut g = no_rows(group, 2, 600, 0);
+    g = no_rows(g, 43200, 600, 0);
+    g = no_rows(g, 43200, 601, 14);
+    g = no_rows(g, 100, 601, 14);
+    g = no_rows(g, 100, 65535, 14);
+    no_rows(g, 1, 601, 4)
 }
 
 // ---- windows and marks
@@ -55,7 +75,7 @@ fn ticks(group: Group) -> Group {
 pub fn round_row(group: Group, start: u16, end: u16, mark: u8, number: u8, labels: &[u8]) -> Group {
     with_case(
         group,
-        in_round(100, &[start], &[end], &[mark], number, labels),
+        in_round(100, 0, &[start], &[end], &[mark], number, labels),
     )
 }
 
@@ -63,6 +83,7 @@ pub fn round_row(group: Group, start: u16, end: u16, mark: u8, number: u8, label
 pub fn run_row(group: Group, start: u16, end: u16, mark: u8, number: u8, labels: &[u8]) -> Group {
     let right = in_run(
         100,
+        0,
         [[0, 100], [0, 100]],
         &[start],
         &[end],
@@ -113,6 +134,7 @@ fn marks(group: Group) -> Group {
 fn in_hours(group: Group, p1: u16, q1: u16, p2: u16, q2: u16, number: u8, labels: &[u8]) -> Group {
     let right = in_run(
         100,
+        0,
         [[p1, q1], [p2, q2]],
         &[10, 15],
         &[20, 25],
@@ -145,10 +167,11 @@ fn open_hours(group: Group) -> Group {
 
 // A must row and both receivers closed: no plan. In a round the hours are neither checked nor used.
 fn closed_hours(group: Group) -> Group {
-    let none = in_run(100, [[0, 0], [0, 0]], &[10], &[20], &[1], 8, &[]);
+    let none = in_run(100, 0, [[0, 0], [0, 0]], &[10], &[20], &[1], 8, &[]);
     let unused = is_planned(
         Kind::Round,
         100,
+        0,
         [[9, 8], [200, 300]],
         &[10],
         &[20],
@@ -205,6 +228,7 @@ fn many_rows(
     let right = is_planned(
         Kind::Round,
         43200,
+        0,
         [[0, 0], [0, 0]],
         first_words(&starts, rows),
         first_words(&list, ends),
@@ -237,6 +261,7 @@ fn lists(group: Group, ends: &[u16], marks: &[u8], places: usize, number: u8) ->
     let right = is_planned(
         Kind::Round,
         100,
+        0,
         [[0, 0], [0, 0]],
         &[10, 15],
         ends,
@@ -262,6 +287,7 @@ fn unequal_lists(group: Group) -> Group {
 pub fn all() -> Group {
     let mut g = no_cases();
     g = ticks(g);
+    g = gaps(g);
     g = round_windows(g);
     g = run_windows(g);
     g = marks(g);

@@ -8,9 +8,10 @@ use trial_report::no_cases;
 use trial_report::with_case;
 use window::Kind;
 
-// P2 with another R, mark of row 2, end of row 3, number of places for labels and of bytes.
+// P2 with another R, gap, mark of row 2, end of row 3, number of places for labels and of bytes.
 fn faulty(
     ticks: u16,
+    gap: u16,
     mark: u8,
     end: u16,
     places: usize,
@@ -21,6 +22,7 @@ fn faulty(
     is_planned(
         Kind::Round,
         ticks,
+        gap,
         [[0, 0], [0, 0]],
         &[10, 20, 25, 90],
         &[30, 40, 50, end],
@@ -40,6 +42,7 @@ fn too_many() -> bool {
     is_planned(
         Kind::Round,
         100,
+        0,
         [[0, 0], [0, 0]],
         &starts,
         &ends,
@@ -51,10 +54,11 @@ fn too_many() -> bool {
     )
 }
 
-// A run with rows 10–30 and 20–40, whose first receiver is open from p to 50.
-fn in_hours(p: u16, mark: u8, number: u8, labels: &[u8]) -> bool {
+// A run with rows 10–30 and 20–40 and a gap, whose first receiver is open from p to 50.
+fn in_hours(p: u16, gap: u16, mark: u8, number: u8, labels: &[u8]) -> bool {
     in_run(
         100,
+        gap,
         [[p, 50], [60, 100]],
         &[10, 20],
         &[30, 40],
@@ -64,26 +68,28 @@ fn in_hours(p: u16, mark: u8, number: u8, labels: &[u8]) -> bool {
     )
 }
 
-// Refusals 1 to 7 leave both as they were.
+// Refusals 1 to 7 and 14 leave both as they were.
 fn untouched(group: Group) -> Group {
-    let mut g = with_case(group, faulty(100, 0, 10, 5, LENT_BYTES, 1, &[]));
+    let mut g = with_case(group, faulty(100, 0, 0, 10, 5, LENT_BYTES, 1, &[]));
     g = with_case(g, too_many());
-    g = with_case(g, faulty(100, 0, 10, 4, 16383, 3, &[]));
-    g = with_case(g, faulty(43201, 0, 10, 4, LENT_BYTES, 4, &[]));
-    g = with_case(g, in_hours(51, 0, 5, &[]));
-    g = with_case(g, faulty(100, 0, 100, 4, LENT_BYTES, 6, &[]));
-    with_case(g, faulty(100, 6, 10, 4, LENT_BYTES, 7, &[]))
+    g = with_case(g, faulty(100, 0, 0, 10, 4, 16383, 3, &[]));
+    g = with_case(g, faulty(43201, 0, 0, 10, 4, LENT_BYTES, 4, &[]));
+    g = with_case(g, in_hours(51, 0, 0, 5, &[]));
+    g = with_case(g, faulty(100, 601, 0, 10, 4, LENT_BYTES, 14, &[]));
+    g = with_case(g, in_hours(0, 601, 0, 14, &[]));
+    g = with_case(g, faulty(100, 0, 0, 100, 4, LENT_BYTES, 6, &[]));
+    with_case(g, faulty(100, 0, 6, 10, 4, LENT_BYTES, 7, &[]))
 }
 
 // A plan and refusal 8 clear the first 16,384 bytes and no others; refusal 8 leaves the labels as they were.
 fn cleared(group: Group) -> Group {
-    let mut g = with_case(group, faulty(100, 1, 10, 4, LENT_BYTES, 8, &[]));
-    g = with_case(g, faulty(100, 1, 10, 4, 16384, 8, &[]));
-    g = with_case(g, in_hours(0, 1, 8, &[]));
-    g = with_case(g, in_hours(0, 5, 8, &[]));
-    g = with_case(g, faulty(100, 0, 10, 4, LENT_BYTES, 0, &[1, 2, 0, 1]));
-    g = with_case(g, faulty(100, 0, 10, 4, 16384, 0, &[1, 2, 0, 1]));
-    with_case(g, in_hours(0, 0, 0, &[1, 0]))
+    let mut g = with_case(group, faulty(100, 0, 1, 10, 4, LENT_BYTES, 8, &[]));
+    g = with_case(g, faulty(100, 0, 1, 10, 4, 16384, 8, &[]));
+    g = with_case(g, in_hours(0, 0, 1, 8, &[]));
+    g = with_case(g, in_hours(0, 0, 5, 8, &[]));
+    g = with_case(g, faulty(100, 0, 0, 10, 4, LENT_BYTES, 0, &[1, 2, 0, 1]));
+    g = with_case(g, faulty(100, 0, 0, 10, 4, 16384, 0, &[1, 2, 0, 1]));
+    with_case(g, in_hours(0, 0, 0, 0, &[1, 0]))
 }
 
 pub fn all() -> Group {

@@ -13,7 +13,7 @@ use window::Kind;
 fn middle(group: Group, marks: &[u8], labels: &[u8]) -> Group {
     with_case(
         group,
-        in_round(10, &[0, 1, 3], &[2, 4, 6], marks, 0, labels),
+        in_round(10, 0, &[0, 1, 3], &[2, 4, 6], marks, 0, labels),
     )
 }
 
@@ -21,7 +21,7 @@ fn middle(group: Group, marks: &[u8], labels: &[u8]) -> Group {
 fn last(group: Group, marks: &[u8], number: u8, labels: &[u8]) -> Group {
     with_case(
         group,
-        in_round(10, &[0, 4, 1], &[2, 6, 5], marks, number, labels),
+        in_round(10, 0, &[0, 4, 1], &[2, 6, 5], marks, number, labels),
     )
 }
 
@@ -29,7 +29,7 @@ fn last(group: Group, marks: &[u8], number: u8, labels: &[u8]) -> Group {
 fn equal(group: Group, marks: &[u8], number: u8, labels: &[u8]) -> Group {
     with_case(
         group,
-        in_round(10, &[4, 4, 4], &[5, 5, 5], marks, number, labels),
+        in_round(10, 0, &[4, 4, 4], &[5, 5, 5], marks, number, labels),
     )
 }
 
@@ -56,6 +56,7 @@ fn alone(group: Group, q1: u16, q2: u16, mark: u8, number: u8, labels: &[u8]) ->
         group,
         in_run(
             100,
+            0,
             [[0, q1], [0, q2]],
             &[10],
             &[20],
@@ -68,7 +69,7 @@ fn alone(group: Group, q1: u16, q2: u16, mark: u8, number: u8, labels: &[u8]) ->
 
 // Both receivers open, in a run and in a round.
 fn open(group: Group, mark: u8, label: u8) -> Group {
-    let round = in_round(100, &[10], &[20], &[mark], 0, &[label]);
+    let round = in_round(100, 0, &[10], &[20], &[mark], 0, &[label]);
     alone(with_case(group, round), 100, 100, mark, 0, &[label])
 }
 
@@ -107,6 +108,7 @@ fn offered(group: Group, mark: u8, label: u8, number: u8, tape: &[u8]) -> Group 
     let right = is_taped(
         Kind::Round,
         10,
+        0,
         [[0, 0], [0, 0]],
         &[3],
         &[4],

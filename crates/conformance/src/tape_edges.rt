@@ -1,17 +1,18 @@
-// The plan tape writer at the edges of paper 01: R 1, 2, 43,200 and 43,201, and the tape of 64 heard rows, than which none is longer.
+// The plan tape writer at the edges of papers 01 and 02: R 1, 2, 43,200 and 43,201, a gap of 600 and 601, and the tape of 64 heard rows, than which none is longer.
 // The bytes expected of it are written out here or made by this file's loops: no product code makes them.
 use trial_calls::is_taped;
 use trial_report::Group;
 use trial_report::with_case;
 use window::Kind;
 
-// ---- R
+// ---- R and the gap
 
 // No rows, open all the time, with room for a tape of no rows and not more.
-fn no_rows(kind: Kind, ticks: u16, number: u8, tape: &[u8]) -> bool {
+fn no_rows(kind: Kind, ticks: u16, gap: u16, number: u8, tape: &[u8]) -> bool {
     is_taped(
         kind,
         ticks,
+        gap,
         [[0, ticks], [0, ticks]],
         &[],
         &[],
@@ -23,17 +24,17 @@ fn no_rows(kind: Kind, ticks: u16, number: u8, tape: &[u8]) -> bool {
     )
 }
 
-fn refused_ticks(group: Group, ticks: u16) -> Group {
-    let g = with_case(group, no_rows(Kind::Round, ticks, 4, &[]));
-    with_case(g, no_rows(Kind::Run, ticks, 4, &[]))
+fn refused(group: Group, ticks: u16, gap: u16, number: u8) -> Group {
+    let g = with_case(group, no_rows(Kind::Round, ticks, gap, number, &[]));
+    with_case(g, no_rows(Kind::Run, ticks, gap, number, &[]))
 }
 
-// R is these two bytes of the tape.
-fn taken_ticks(group: Group, ticks: u16, high: u8, low: u8) -> Group {
+// R is these two bytes of the tape, which has no gap on it.
+fn taken(group: Group, ticks: u16, gap: u16, high: u8, low: u8) -> Group {
     let round = [0x10, high, low, 0x20, 0x01, 0x20, 0x02, 0x7F];
     let run = [0x11, high, low, 0x20, 0x01, 0x20, 0x02, 0x7F];
-    let g = with_case(group, no_rows(Kind::Round, ticks, 0, &round));
-    with_case(g, no_rows(Kind::Run, ticks, 0, &run))
+    let g = with_case(group, no_rows(Kind::Round, ticks, gap, 0, &round));
+    with_case(g, no_rows(Kind::Run, ticks, gap, 0, &run))
 }
 
 // One row, which receiver 2 hears.
@@ -41,6 +42,7 @@ fn one_row(kind: Kind, ticks: u16, start: u16, end: u16, tape: &[u8]) -> bool {
     is_taped(
         kind,
         ticks,
+        0,
         [[0, 0], [0, ticks]],
         &[start],
         &[end],
@@ -93,12 +95,21 @@ fn last_tick(group: Group, ticks: u16, high: u8, low: u8) -> Group {
 }
 
 fn ticks(group: Group) -> Group {
-    let mut g = refused_ticks(group, 1);
-    g = taken_ticks(g, 2, 0x00, 0x02);
-    g = taken_ticks(g, 43200, 0xA8, 0xC0);
-    g = refused_ticks(g, 43201);
+    let mut g = refused(group, 1, 0, 4);
+    g = taken(g, 2, 0, 0x00, 0x02);
+    g = taken(g, 43200, 0, 0xA8, 0xC0);
+    g = refused(g, 43201, 0, 4);
     g = last_tick(g, 2, 0x00, 0x02);
     last_tick(g, 43200, 0xA8, 0xC0)
+}
+
+// "14, g above 600, looked at after 5", so that an R that is refused comes before it.
+fn gaps(group: Group) -> Group {
+    let mut g = taken(group, 2, 600, 0x00, 0x02);
+    g = taken(g, 43200, 600, 0xA8, 0xC0);
+    g = refused(g, 43200, 601, 14);
+    g = refused(g, 2, 65535, 14);
+    refused(g, 43201, 601, 4)
 }
 
 // ---- 64 heard rows
@@ -122,7 +133,8 @@ fn ticks_after(ticks: u16) -> [u16; 64] {
     list
 }
 
-fn labels() -> [u8; 64] {
+// Receivers 1 and 2 in turn.
+pub fn labels() -> [u8; 64] {
     let mut list = [0u8; 64];
     for row in 0..64 {
         list[row] = (row % 2 + 1) as u8;
@@ -177,8 +189,8 @@ fn tape_of_64(command: u8) -> [u8; 392] {
     tape
 }
 
-// The 64 rows, all of which must be heard, with so many bytes for the tape.
-fn rows_64(group: Group, kind: Kind, bytes: usize, number: u8, tape: &[u8]) -> Group {
+// The 64 rows, all of which must be heard, with a gap and so many bytes for the tape.
+fn rows_64(group: Group, kind: Kind, gap: u16, bytes: usize, number: u8, tape: &[u8]) -> Group {
     let first = ticks_after(0);
     let last = ticks_after(1200);
     let marks = [1u8; 64];
@@ -186,6 +198,7 @@ fn rows_64(group: Group, kind: Kind, bytes: usize, number: u8, tape: &[u8]) -> G
     let right = is_taped(
         kind,
         43200,
+        gap,
         [[0, 43200], [0, 43200]],
         &first,
         &last,
@@ -198,18 +211,20 @@ fn rows_64(group: Group, kind: Kind, bytes: usize, number: u8, tape: &[u8]) -> G
     with_case(group, right)
 }
 
-// It fits 392 bytes, and bytes after them are untouched; a buffer of 391 gives 10.
+// It fits 392 bytes, and bytes after them are untouched; a buffer of 391 gives 10. With a gap the rows of one receiver are too close.
 fn rows(group: Group) -> Group {
     let round = tape_of_64(0x10);
     let run = tape_of_64(0x11);
-    let mut g = rows_64(group, Kind::Round, 392, 0, &round);
-    g = rows_64(g, Kind::Round, 400, 0, &round);
-    g = rows_64(g, Kind::Round, 391, 10, &[]);
-    g = rows_64(g, Kind::Run, 392, 0, &run);
-    rows_64(g, Kind::Run, 391, 10, &[])
+    let mut g = rows_64(group, Kind::Round, 0, 392, 0, &round);
+    g = rows_64(g, Kind::Round, 0, 400, 0, &round);
+    g = rows_64(g, Kind::Round, 0, 391, 10, &[]);
+    g = rows_64(g, Kind::Run, 0, 392, 0, &run);
+    g = rows_64(g, Kind::Run, 0, 391, 10, &[]);
+    g = rows_64(g, Kind::Round, 1, 400, 9, &[]);
+    rows_64(g, Kind::Run, 1, 400, 9, &[])
 }
 
 // The cases of a group, and these.
 pub fn with_edges(group: Group) -> Group {
-    rows(ticks(group))
+    rows(gaps(ticks(group)))
 }

@@ -11,6 +11,7 @@ fn p2(group: Group, marks: &[u8], labels: &[u8], bytes: usize, number: u8, tape:
     let right = is_taped(
         Kind::Round,
         100,
+        0,
         [[0, 0], [0, 0]],
         &[10, 20, 25, 90],
         &[30, 40, 50, 10],

@@ -4,6 +4,7 @@
 pub struct Head {
     pub run: bool,
     pub ticks: u16,
+    pub gap: u16,
     pub hours: [u16; 4],
     pub rows: usize,
     pub labels: usize,
@@ -292,6 +293,7 @@ fn head_by(seed: u64) -> Head {
     Head {
         run: below(next(c), 2) == 0,
         ticks,
+        gap: 0,
         hours,
         rows,
         labels: rows,
@@ -299,7 +301,7 @@ fn head_by(seed: u64) -> Head {
     }
 }
 
-// A table with a plan.
+// A table with a gap of 0 and a plan.
 pub fn plan_by(seed: u64) -> Lent {
     let head = head_by(seed);
     let hours = head.hours;

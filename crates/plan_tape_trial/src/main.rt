@@ -1,6 +1,8 @@
-// Runs the plan tape writer on paper 01's session, on calls that it must refuse, and on plans made by chance, whose tapes it reads back.
+// Runs the plan tape writer on paper 01's session, on calls that it must refuse, and on plans made by chance, each with the longest gap that it keeps, whose tapes it reads back.
 // Product code has a part in the inputs: `table::setting_of` makes the setting of a call, `window::overlap` the plans (see plan_tape_made).
 ghost use Prim.Native.Nat.{_≤_};
+use plan_tape_made::gaps::kept;
+use plan_tape_made::gaps::with_gap;
 use plan_tape_made::made::Head;
 use plan_tape_made::made::Lent;
 use plan_tape_made::made::next;
@@ -65,7 +67,7 @@ fn write_lists(
     let hours = hours_of(pairs);
     let part = at_most(head.room, tape.len());
     plan_tape::write_plan(
-        table::setting_of(kind, head.ticks, hours),
+        table::setting_of(kind, head.ticks, head.gap, hours),
         words(starts, head.rows),
         words(ends, head.rows),
         bytes(marks, head.rows),
@@ -166,6 +168,7 @@ fn session() -> Lent {
     let head = Head {
         run: false,
         ticks: 100,
+        gap: 0,
         hours: [0, 0, 0, 0],
         rows: 4,
         labels: 4,
@@ -186,6 +189,7 @@ fn as_run(close: u16) -> Lent {
     let head = Head {
         run: true,
         ticks: 100,
+        gap: 0,
         hours: [0, close, 0, 100],
         rows: 3,
         labels: 3,
@@ -201,6 +205,7 @@ fn as_round(ticks: u16, rows: usize, labels: usize, room: usize) -> Lent {
     let head = Head {
         run: false,
         ticks,
+        gap: 0,
         hours: [0, 0, 0, 0],
         rows,
         labels,
@@ -239,22 +244,24 @@ fn run_session() {
     run_call(0, as_run(30));
 }
 
-// Three labels for four rows, 65 rows, R 1, hours past R, an end at R, a mark 6.
+// Three labels for four rows, 65 rows, R 1, hours past R, a gap of 601, an end at R, a mark 6.
 fn run_refused() {
     run_call(1, as_round(100, 4, 3, 400));
     run_call(2, as_round(100, 65, 65, 400));
     run_call(4, as_round(1, 4, 4, 400));
     run_call(5, as_run(101));
+    run_call(14, with_gap(session(), 601));
     run_call(6, with_row_2(100, 0, 0));
     run_call(7, with_row_2(50, 6, 0));
 }
 
-// Labels of P2 with a 3 in them, a must row left out, an overlap on receiver 1, a row past its receiver's hours.
+// Labels of P2 with a 3 in them, a must row left out, an overlap on receiver 1, a row past its receiver's hours, a gap between 90–10 and 10–30.
 fn run_not_plans() {
     run_call(9, with_row_2(50, 0, 3));
     run_call(9, with_row_2(50, 1, 0));
     run_call(9, with_row_2(50, 0, 1));
     run_call(9, as_run(29));
+    run_call(9, with_gap(session(), 1));
 }
 
 // ---- plans by chance
@@ -265,6 +272,8 @@ struct Trial {
     wraps: bool,
     all_day: bool,
     mixed: bool,
+    gap: bool,
+    close: bool,
     differs: bool,
 }
 
@@ -274,6 +283,8 @@ struct Tally {
     wraps: u64,
     all_day: u64,
     mixed: u64,
+    gap: u64,
+    close: u64,
     differs: u64,
 }
 
@@ -290,6 +301,8 @@ fn add(tally: Tally, trial: Trial) -> Tally {
         wraps: more(tally.wraps, trial.wraps),
         all_day: more(tally.all_day, trial.all_day),
         mixed: more(tally.mixed, trial.mixed),
+        gap: more(tally.gap, trial.gap),
+        close: more(tally.close, trial.close),
         differs: more(tally.differs, trial.differs),
     }
 }
@@ -391,25 +404,42 @@ fn is_right(lent: Lent, answer: Answer, tape: &[u8; 400]) -> bool {
     is_told(lent, answer.count, tape)
 }
 
-// Whether the call is refused for its buffer, which is left as it was.
-fn is_short(lent: Lent) -> bool {
+// Whether the call is refused by this number, and the buffer is left as it was.
+fn is_refused(lent: Lent, number: u8) -> bool {
     let mut tape = filled();
     let answer = write(lent, &mut tape);
     let refusal = answer.refusal;
-    if refusals::number(refusal) != 10 {
+    if refusals::number(refusal) != number {
         return false;
     }
     is_untouched(&tape, answer.count)
 }
 
-// Whether a buffer that is long enough does not get the tape, or one that is a byte too short is not refused.
+// A gap of one tick more than the plan keeps: 9, and 14 where that is above 600.
+fn is_too_close(lent: Lent) -> bool {
+    let head = lent.head;
+    let number: u8 = if head.gap < 600 { 9 } else { 14 };
+    is_refused(
+        with_gap(lent, std::num::wrapping_add_u16(head.gap, 1)),
+        number,
+    )
+}
+
+// Whether, with the longest gap that the plan keeps, a buffer that is long enough does not get the tape, or one that is a byte too short is not refused, or a gap that
+// is a tick too long is not.
 fn differs(lent: Lent) -> bool {
     let mut tape = filled();
     let answer = write(lent, &mut tape);
     if !is_right(lent, answer, &tape) {
         return true;
     }
-    !is_short(with_room(lent, std::num::wrapping_sub_usize(answer.count, 1)))
+    if !is_refused(
+        with_room(lent, std::num::wrapping_sub_usize(answer.count, 1)),
+        10,
+    ) {
+        return true;
+    }
+    !is_too_close(lent)
 }
 
 fn with_room(lent: Lent, room: usize) -> Lent {
@@ -434,16 +464,20 @@ fn has_any_mixed(starts: &[u16; 65], labels: &[u8; 65]) -> bool {
     has_mixed(starts, labels, 2)
 }
 
+// A plan, with the longest gap that it keeps.
 fn try_plan(lent: Lent) -> Trial {
     let starts = lent.starts;
     let ends = lent.ends;
     let labels = lent.labels;
+    let gap = kept(lent);
     Trial {
         both: has_both(&labels),
         wraps: has_heard(&starts, &ends, &labels, false),
         all_day: has_heard(&starts, &ends, &labels, true),
         mixed: has_any_mixed(&starts, &labels),
-        differs: differs(lent),
+        gap: 0 < gap,
+        close: gap < 600,
+        differs: differs(with_gap(lent, gap)),
     }
 }
 
@@ -453,6 +487,8 @@ fn try_many(count: u64) -> Tally {
         wraps: 0,
         all_day: 0,
         mixed: 0,
+        gap: 0,
+        close: 0,
         differs: 0,
     };
     let mut seed: u64 = 2026;
@@ -475,6 +511,8 @@ fn print_tally(tally: Tally) {
     print_count(b"with a window that wraps ", tally.wraps);
     print_count(b"with a window that sends all day ", tally.all_day);
     print_count(b"with rows out of start order ", tally.mixed);
+    print_count(b"with a gap above 0 ", tally.gap);
+    print_count(b"refused 9 with a gap of one tick more ", tally.close);
     print_count(b"that differ ", tally.differs);
 }
 

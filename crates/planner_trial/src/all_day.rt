@@ -2,8 +2,8 @@
 // what the brute force finds is another answer where it covers fewer.
 use crate::drawn::Table;
 use crate::searched::brute_kind_of;
-use crate::searched::pairs;
-use brute_force::plans;
+use crate::searched::clashes;
+use crate::searched::found_with;
 use brute_force::plans::Found;
 use brute_force::plans::changed;
 use brute_force::windows;
@@ -62,13 +62,7 @@ fn sets_of(t: Table, taken: Taken) -> [u64; 8] {
 // Whether the answer would be another one if they were.
 fn decides(t: Table, right: Found, taken: Taken) -> bool {
     let sets = sets_of(t, taken);
-    let starts = t.starts;
-    let ends = t.ends;
-    let marks = t.marks;
-    let hours = t.hours;
-    let kind = brute_kind_of(t.run);
-    let permissions = windows::window_permissions(kind, &starts, &ends, &marks, pairs(hours));
-    changed(right, plans::search(t.rows, &sets, &permissions))
+    changed(right, found_with(t, &clashes(t, &sets, t.run, t.gap)))
 }
 
 // One table more, if it is a round: in a run no window ends at its start.

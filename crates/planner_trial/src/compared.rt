@@ -5,7 +5,12 @@ use crate::decided;
 use crate::decided::Decided;
 use crate::drawn;
 use crate::drawn::Table;
+use crate::gap;
+use crate::gap::Gaps;
+use crate::offered;
+use crate::offered::Offered;
 use crate::searched::found;
+use crate::searched::kind_of;
 use crate::searched::pairs;
 use brute_force::plans::Found;
 use brute_force::plans::changed;
@@ -14,7 +19,6 @@ use trial_calls::first_bytes;
 use trial_calls::first_words;
 use trial_calls::is_planned;
 use trial_report::more;
-use window::Kind;
 
 pub const TABLES: u32 = 24000;
 
@@ -29,12 +33,11 @@ pub struct Tally {
     pub rounds: Decided,
     pub runs: Decided,
     pub every_tick: EveryTick,
+    pub round_gaps: Gaps,
+    pub run_gaps: Gaps,
+    pub offered: Offered,
     pub differ: u32,
     state: u64,
-}
-
-fn kind_of(run: bool) -> Kind {
-    if run { Kind::Run } else { Kind::Round }
 }
 
 // The number of the answer: refusal 8 if there is no plan.
@@ -58,6 +61,7 @@ fn is_found(t: Table, found: Found) -> bool {
     is_planned(
         kind_of(t.run),
         t.ticks,
+        t.gap,
         pairs(hours),
         first_words(&starts, n),
         first_words(&ends, n),
@@ -120,6 +124,9 @@ fn with_table(tally: Tally) -> Tally {
     let rounds = tally.rounds;
     let runs = tally.runs;
     let every_tick = tally.every_tick;
+    let round_gaps = tally.round_gaps;
+    let run_gaps = tally.run_gaps;
+    let offered = tally.offered;
     let n = heard(t, &labels);
     Tally {
         none: more(tally.none, right.answer == 0),
@@ -131,6 +138,9 @@ fn with_table(tally: Tally) -> Tally {
         rounds: decided::of_kind(rounds, t, false, right),
         runs: decided::of_kind(runs, t, true, right),
         every_tick: all_day::with_table(every_tick, t, right),
+        round_gaps: gap::of_kind(round_gaps, t, false, right),
+        run_gaps: gap::of_kind(run_gaps, t, true, right),
+        offered: offered::with_table(offered, t, right),
         differ: more(tally.differ, !is_found(t, right)),
         state: t.state,
     }
@@ -148,6 +158,9 @@ pub fn tables() -> Tally {
         rounds: decided::nothing(),
         runs: decided::nothing(),
         every_tick: all_day::nothing(),
+        round_gaps: gap::nothing(),
+        run_gaps: gap::nothing(),
+        offered: offered::nothing(),
         differ: 0,
         state: 149,
     };

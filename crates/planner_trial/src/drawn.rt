@@ -1,15 +1,17 @@
 // Small tables drawn from a pseudo-random sequence: short days, so that much overlaps, touches and is equal.
 use brute_force::random;
 
-// A run or a round; hours are p1, q1, p2, q2.
+// A run or a round; hours are p1, q1, p2, q2. `list` is the number of a label list (`brute_force::plans`), which is offered to the plan tape writer.
 pub struct Table {
     pub run: bool,
     pub ticks: u16,
+    pub gap: u16,
     pub hours: [u16; 4],
     pub rows: usize,
     pub starts: [u16; 8],
     pub ends: [u16; 8],
     pub marks: [u8; 8],
+    pub list: u32,
     // the sequence's state after the table
     pub state: u64,
 }
@@ -122,6 +124,15 @@ fn draw_hours(ticks: u16, state: u64) -> [u16; 4] {
     [p1, q1, p2, q2]
 }
 
+// The gap: 0 for one table in four, R or more for one in eight, and for the others from 1 to a third of R and 1. Which of these it is lies in the lower half of the state.
+fn gap(ticks: u16, state: u64) -> u16 {
+    match state % 8 {
+        0..=1 => 0,
+        2 => from(state, ticks, 8),
+        _ => from(state, 1, ticks / 3 + 1),
+    }
+}
+
 // A table of at most 7 rows on 2 to 24 ticks, a run one time in three, the longest of its windows drawn first, so that windows of all lengths come up.
 pub fn draw(state: u64) -> Table {
     let a = random::next(state);
@@ -138,14 +149,18 @@ pub fn draw(state: u64) -> Table {
     let f = draw_ends(&mut ends, run, ticks, &starts, longest, e);
     let mut marks = [0u8; 8];
     let g = draw_marks(&mut marks, f);
+    let h = random::next(g);
+    let i = random::next(h);
     Table {
         run,
         ticks,
-        hours: draw_hours(ticks, g),
+        gap: gap(ticks, h),
+        hours: draw_hours(ticks, i),
         rows,
         starts,
         ends,
         marks,
-        state: random::next(g),
+        list: below(i, 2187) as u32,
+        state: random::next(i),
     }
 }

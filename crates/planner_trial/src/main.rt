@@ -1,18 +1,22 @@
-// Compares the planner's answers for small random tables with those of the brute force, and prints what there was among the tables.
+// Compares the planner's answers for small random tables, and the plan tape writer's for labels of them, with those of the brute force, and prints what there was among them.
 mod all_day;
 mod compared;
 mod decided;
 mod drawn;
+mod gap;
+mod offered;
 mod searched;
 
 use all_day::EveryTick;
 use compared::Tally;
 use decided::Decided;
+use gap::Gaps;
+use offered::Offered;
 use trial_report::print;
 use trial_report::print_two;
 use trial_report::print_words;
 
-fn print_mark(words: &[u8], rounds: u32, runs: u32) {
+fn print_by(words: &[u8], rounds: u32, runs: u32) {
     print_words(b"  decided by ");
     print_words(words);
     print_two(b": rounds ", rounds, b", runs ", runs);
@@ -20,14 +24,14 @@ fn print_mark(words: &[u8], rounds: u32, runs: u32) {
 
 // The tables whose answer a mark decided: with the other mark in its place it is another answer.
 fn print_decided(rounds: Decided, runs: Decided) {
-    print_mark(b"mark 0, not 1", rounds.zero_as_one, runs.zero_as_one);
-    print_mark(b"mark 1, not 0", rounds.one_as_zero, runs.one_as_zero);
-    print_mark(b"mark 2, not 0", rounds.two_as_zero, runs.two_as_zero);
-    print_mark(b"mark 3, not 1", rounds.three_as_one, runs.three_as_one);
-    print_mark(b"mark 3, not 2", rounds.three_as_two, runs.three_as_two);
-    print_mark(b"mark 4, not 0", rounds.four_as_zero, runs.four_as_zero);
-    print_mark(b"mark 5, not 1", rounds.five_as_one, runs.five_as_one);
-    print_mark(b"mark 5, not 4", rounds.five_as_four, runs.five_as_four);
+    print_by(b"mark 0, not 1", rounds.zero_as_one, runs.zero_as_one);
+    print_by(b"mark 1, not 0", rounds.one_as_zero, runs.one_as_zero);
+    print_by(b"mark 2, not 0", rounds.two_as_zero, runs.two_as_zero);
+    print_by(b"mark 3, not 1", rounds.three_as_one, runs.three_as_one);
+    print_by(b"mark 3, not 2", rounds.three_as_two, runs.three_as_two);
+    print_by(b"mark 4, not 0", rounds.four_as_zero, runs.four_as_zero);
+    print_by(b"mark 5, not 1", rounds.five_as_one, runs.five_as_one);
+    print_by(b"mark 5, not 4", rounds.five_as_four, runs.five_as_four);
 }
 
 // The rounds whose answer it decided that a window that sends all day covers every tick: where it covers fewer it is another answer.
@@ -41,6 +45,44 @@ fn print_every_tick(a: EveryTick) {
         b"  decided by every tick, not all but the start: rounds ",
         a.not_others,
     );
+}
+
+// The tables whose answer the gap decided: with another gap, or counted as in the other kind of day, it is another answer.
+fn print_gaps(rounds: Gaps, runs: Gaps) {
+    print_by(b"the gap, not 0", rounds.not_0, runs.not_0);
+    print_by(
+        b"the gap, not one tick more",
+        rounds.not_more,
+        runs.not_more,
+    );
+    print(
+        b"  decided by the gap on both sides, not within the day alone: rounds ",
+        rounds.not_other,
+    );
+    print(
+        b"  decided by the gap within the day, not over its end too: runs ",
+        runs.not_other,
+    );
+    print_two(
+        b"  no plan because of the gap: rounds ",
+        rounds.no_plan,
+        b", runs ",
+        runs.no_plan,
+    );
+    print_two(
+        b"  a gap of R or more: rounds ",
+        rounds.long,
+        b", runs ",
+        runs.long,
+    );
+}
+
+fn print_offered(o: Offered) {
+    print(b"labels offered to the writer: ", o.lists);
+    print(b"  a plan ", o.plans);
+    print(b"  a plan but for the gap ", o.too_close);
+    print(b"  no plan with any gap ", o.others);
+    print(b"  differ ", o.differ);
 }
 
 fn print_heard(tally: Tally) {
@@ -64,5 +106,10 @@ fn main() {
     print_decided(rounds, runs);
     let every_tick = tally.every_tick;
     print_every_tick(every_tick);
+    let round_gaps = tally.round_gaps;
+    let run_gaps = tally.run_gaps;
+    print_gaps(round_gaps, run_gaps);
     print(b"  differ ", tally.differ);
+    let offered = tally.offered;
+    print_offered(offered);
 }

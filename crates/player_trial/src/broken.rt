@@ -191,7 +191,7 @@ fn all_day_overlaps(g: Groups) -> Groups {
     two(groups, 10, 0x0A, 16, 0x5A, false)
 }
 
-// Row 0 is 10–30, and row 3 in a round 29–10, 30–10, 90–11, 90–10, 10–20, 20–25, 31–30; or row 0 is 10–90, 10–91, 10–5.
+// "Plan tapes are still read with g of 0" (request 4), so that touching windows are taken. Row 0 is 10–30, and row 3 in a round 29–10, 30–10, 90–11, 90–10, 10–20, 20–25, 31–30; or row 0 is 10–90, 10–91, 10–5.
 fn round_overlaps(g: Groups) -> Groups {
     let mut groups = one(g, 14, 0x1D, false);
     groups = one(groups, 14, 0x1E, true);

@@ -22,6 +22,17 @@ pub fn after(time: Time, tick: u16) -> u16 {
     if next < time.ticks { next } else { 0 }
 }
 
+// The tick before a tick, in a round going from 0 to R-1. Before tick 0 of a run there is none, and 65,535 stands for it.
+fn before(time: Time, tick: u16) -> u16 {
+    if time.run {
+        return std::num::wrapping_sub_u16(tick, 1);
+    }
+    if tick == 0 {
+        return std::num::wrapping_sub_u16(time.ticks, 1);
+    }
+    std::num::wrapping_sub_u16(tick, 1)
+}
+
 // Where a tick of a receiver's day stands: 43,200 places for receiver 1, and then as many for receiver 2.
 fn place(receiver: u8, tick: u16) -> usize {
     if receiver == 1 {
@@ -68,6 +79,42 @@ fn is_free(days: &[u32; 86400], receiver: u8, time: Time, start: u16, end: u16) 
         left -= 1;
     }
     true
+}
+
+// Whether a receiver is idle at so many ticks from a tick on, or from it back. In a run the walk ends at R, and before tick 0.
+fn is_idle(days: &[u32; 86400], receiver: u8, time: Time, from: u16, n: u16, back: bool) -> bool {
+    let mut tick = from;
+    let mut left = n;
+    while 0 < left {
+        if time.ticks <= tick {
+            return true;
+        }
+        if at_tick(days, receiver, tick) != 0 {
+            return false;
+        }
+        tick = if back {
+            before(time, tick)
+        } else {
+            after(time, tick)
+        };
+        left -= 1;
+    }
+    true
+}
+
+// Whether a receiver is idle for a gap after a window and before it: "A receiver needs g ticks between two different windows" (request 4). The window itself is not marked yet.
+pub fn has_gap(
+    days: &[u32; 86400],
+    receiver: u8,
+    time: Time,
+    gap: u16,
+    start: u16,
+    end: u16,
+) -> bool {
+    if !is_idle(days, receiver, time, end, gap, false) {
+        return false;
+    }
+    is_idle(days, receiver, time, before(time, start), gap, true)
 }
 
 // Marks each tick of a window, by the same walk.

@@ -1,4 +1,5 @@
-// Tables drawn from a pseudo-random sequence, with labels given row by row: a row takes the receiver that it is offered to, if that is idle at all ticks of its window.
+// Tables drawn from a pseudo-random sequence, with labels given row by row: a row takes the receiver that it is offered to, if that is idle at all ticks of its window and
+// for the gap on both sides.
 // No product code has a part in them.
 ghost use Prim.Native.Nat.{_≤_};
 use crate::days;
@@ -82,11 +83,15 @@ fn label_of(
     days: &mut [u32; 86400],
     receiver: u8,
     time: Time,
+    gap: u16,
     row: u8,
     start: u16,
     end: u16,
 ) -> u8 {
     if receiver == 0 {
+        return 0;
+    }
+    if !days::has_gap(days, receiver, time, gap, start, end) {
         return 0;
     }
     if days::take(days, receiver, time, row, start, end) {
@@ -101,6 +106,7 @@ pub fn draw_labels(
     ends: &[u16; 64],
     rows: usize,
     time: Time,
+    gap: u16,
     days: &mut [u32; 86400],
     state: u64,
 ) -> [u8; 64] {
@@ -111,7 +117,7 @@ pub fn draw_labels(
     while row < n {
         s = random::next(s);
         let receiver = receiver_by(below(s, 8));
-        labels[row] = label_of(days, receiver, time, row as u8, starts[row], ends[row]);
+        labels[row] = label_of(days, receiver, time, gap, row as u8, starts[row], ends[row]);
         row += 1;
     }
     labels

@@ -26,26 +26,28 @@ pub fn bytes(list: &[u8], n: usize) -> &[u8] {
     list
 }
 
-// Writes the tape of a table of 64 rows and its labels, in a run with both receivers open from 0 to R: how many bytes it has, 0 if it is refused.
+// Writes the tape of a table of 64 rows with a gap and its labels, in a run with both receivers open from 0 to R: how many bytes it has, 0 if it is refused.
 fn write(
     time: Time,
+    gap: u16,
     starts: &[u16; 64],
     ends: &[u16; 64],
     labels: &[u8; 64],
     tape: &mut [u8; 400],
 ) -> usize {
     let ticks = time.ticks;
-    let setting = table::setting_of(kind_of(time.run), ticks, [[0, ticks], [0, ticks]]);
+    let setting = table::setting_of(kind_of(time.run), ticks, gap, [[0, ticks], [0, ticks]]);
     let answer = plan_tape::write_plan(setting, starts, ends, &[0u8; 64], labels, tape);
     answer.count
 }
 
 // ---- tables
 
-// What is drawn: a table with windows of up to so many ticks and windows that send all day, of which the first `rows` rows may be heard.
+// What is drawn: a table with a gap, windows of up to so many ticks and windows that send all day, of which the first `rows` rows may be heard.
 // The tape is played from each first tick, or from the first, the last and one between.
 struct Plan {
     time: Time,
+    gap: u16,
     rows: usize,
     longest: u16,
     each: bool,
@@ -77,9 +79,9 @@ fn draw(plan: Plan, days: &mut [u32; 86400], tape: &mut [u8; 400]) -> Written {
     let mut starts = [0u16; 64];
     let mut ends = [0u16; 64];
     let state = draw_windows(&mut starts, &mut ends, time, plan.longest, plan.state);
-    let labels = draw_labels(&starts, &ends, plan.rows, time, days, state);
+    let labels = draw_labels(&starts, &ends, plan.rows, time, plan.gap, days, state);
     Written {
-        n: write(time, &starts, &ends, &labels, tape),
+        n: write(time, plan.gap, &starts, &ends, &labels, tape),
         state: random::next(random::next(state)),
     }
 }
@@ -118,11 +120,27 @@ fn small(state: u64) -> Plan {
     };
     Plan {
         time,
+        gap: 0,
         rows,
         longest,
         each: true,
         state: d,
     }
+}
+
+// The same with a gap from 1 on: to twice R for one table in four, else to a quarter of R and 1. Which of these it is lies in the lower half of the state.
+fn with_gap(state: u64) -> Plan {
+    let mut plan = small(state);
+    let time = plan.time;
+    let s = random::next(plan.state);
+    let most = if s % 4 == 0 {
+        std::num::wrapping_add_u16(time.ticks, time.ticks)
+    } else {
+        time.ticks / 4 + 1
+    };
+    plan.gap = from(s, 1, most);
+    plan.state = s;
+    plan
 }
 
 // A run or a round of up to 1,000 ticks with up to 64 rows.
@@ -137,6 +155,7 @@ fn larger(state: u64) -> Plan {
     };
     Plan {
         time,
+        gap: 0,
         rows: below(b, 65) as usize,
         longest: ticks / 16 + 1,
         each: false,
@@ -149,6 +168,7 @@ fn longest(run: bool, state: u64) -> Plan {
     let time = Time { run, ticks: 43200 };
     Plan {
         time,
+        gap: 0,
         rows: 64,
         longest: 2700,
         each: false,
@@ -156,20 +176,28 @@ fn longest(run: bool, state: u64) -> Plan {
     }
 }
 
-fn plan_of(each: bool, state: u64) -> Plan {
-    if each {
-        return small(state);
-    }
-    larger(state)
+// Which tables are drawn.
+pub enum Which {
+    Small,
+    WithGap,
+    Larger,
 }
 
-// So many tables, small ones from each first tick or larger ones.
-pub fn tables(each: bool, n: u32) -> Tally {
+fn plan_of(which: Which, state: u64) -> Plan {
+    match which {
+        Which::Small => small(state),
+        Which::WithGap => with_gap(state),
+        Which::Larger => larger(state),
+    }
+}
+
+// So many tables.
+pub fn tables(which: Which, n: u32) -> Tally {
     let mut tally = no_steps();
     let mut state: u64 = 149;
     let mut i: u32 = 0;
     while i < n {
-        let made = play_plan(tally, plan_of(each, state));
+        let made = play_plan(tally, plan_of(which, state));
         tally = made.tally;
         state = made.state;
         i += 1;

@@ -13,11 +13,14 @@ mod session;
 mod verdicts;
 
 use changed::Changed;
+use made::Which;
 use played::Tally;
 use trial_report::print;
 use trial_report::print_group;
 
 const SMALL: u32 = 2000;
+
+const WITH_GAP: u32 = 1000;
 
 const LARGER: u32 = 200;
 
@@ -50,7 +53,12 @@ fn print_played() {
     );
     print_tally(all_day::all());
     print(b"tables of 2 to 12 ticks, from each first tick: ", SMALL);
-    print_tally(made::tables(true, SMALL));
+    print_tally(made::tables(Which::Small, SMALL));
+    print(
+        b"tables of 2 to 12 ticks with a gap, from each first tick: ",
+        WITH_GAP,
+    );
+    print_tally(made::tables(Which::WithGap, WITH_GAP));
 }
 
 fn print_larger() {
@@ -58,7 +66,7 @@ fn print_larger() {
         b"tables of up to 1,000 ticks, from three first ticks: ",
         LARGER,
     );
-    print_tally(made::tables(false, LARGER));
+    print_tally(made::tables(Which::Larger, LARGER));
     print(b"tables of 43,200 ticks, from three first ticks: ", 2);
     print_tally(made::longest_tables());
 }

@@ -1,4 +1,4 @@
-// Replies to fleet tapes: paper 01's session, rows for one receiver only, rows that send all day, refusals, and tapes of up to 400 bytes and of more.
+// Replies to fleet tapes: paper 01's session, rows for one receiver only, rows that send all day, touching rows, refusals, and tapes of up to 400 bytes and of more.
 use trial_calls::BEFORE;
 use trial_calls::LENT_BYTES;
 use trial_calls::first_bytes;
@@ -209,6 +209,63 @@ fn all_day(group: Group) -> Group {
     )
 }
 
+// 20–40 and 40–`end` in a round of 100 ticks that receiver 1 alone must hear.
+fn touching_round(end: u8) -> bool {
+    let tape = [
+        0x10,
+        0x00,
+        0x64,
+        0x43,
+        0x00,
+        0x14,
+        0x00,
+        0x28,
+        0x43,
+        0x00,
+        0x28,
+        0x00,
+        end,
+        0x7F,
+    ];
+    is_replied(&tape, 0, b"heard 2\n0 1\n1 1\n")
+}
+
+// 20–40 and 40–100 in a run of 100 ticks in which receiver 1 is open all the time and receiver 2 never.
+fn touching_run() -> bool {
+    let tape = [
+        0x11,
+        0x00,
+        0x64,
+        0x50,
+        0x00,
+        0x00,
+        0x00,
+        0x64,
+        0x00,
+        0x00,
+        0x00,
+        0x00,
+        0x41,
+        0x00,
+        0x14,
+        0x00,
+        0x28,
+        0x41,
+        0x00,
+        0x28,
+        0x00,
+        0x64,
+        0x7F,
+    ];
+    is_replied(&tape, 0, b"heard 2\n0 1\n1 1\n")
+}
+
+// "`hubplan` uses 0" as the gap (request 4), so that one receiver hears windows that touch, on one side and on both.
+fn touching(group: Group) -> Group {
+    let g = with_case(group, touching_round(60));
+    with_case(with_case(g, touching_round(20)), touching_run())
+}
+
 // A tape that is not of the form.
 fn broken(group: Group, tape: &[u8]) -> Group {
     with_case(group, is_replied(tape, 11, b"refused 11\n"))
@@ -293,6 +350,7 @@ pub fn all() -> Group {
     g = planned(g);
     g = one_receiver(g);
     g = all_day(g);
+    g = touching(g);
     g = not_of_the_form(g);
     g = long_rounds(g);
     long_runs(g)

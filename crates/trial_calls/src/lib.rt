@@ -110,6 +110,7 @@ fn with_label(n: usize, label: u8) -> usize {
 fn plan(
     kind: Kind,
     ticks: u16,
+    gap: u16,
     hours: [[u16; 2]; 2],
     starts: &[u16],
     ends: &[u16],
@@ -122,7 +123,7 @@ fn plan(
     let n = at_most(places, labels.len());
     let m = at_most(bytes, space.len());
     planner::plan(
-        table::setting_of(kind, ticks, hours),
+        table::setting_of(kind, ticks, gap, hours),
         starts,
         ends,
         marks,
@@ -135,6 +136,7 @@ fn plan(
 pub fn is_planned(
     kind: Kind,
     ticks: u16,
+    gap: u16,
     hours: [[u16; 2]; 2],
     starts: &[u16],
     ends: &[u16],
@@ -149,6 +151,7 @@ pub fn is_planned(
     let answer = plan(
         kind,
         ticks,
+        gap,
         hours,
         starts,
         ends,
@@ -170,6 +173,7 @@ pub fn is_planned(
 // The same of a round, with a place for each row's label.
 pub fn in_round(
     ticks: u16,
+    gap: u16,
     starts: &[u16],
     ends: &[u16],
     marks: &[u8],
@@ -179,6 +183,7 @@ pub fn in_round(
     is_planned(
         Kind::Round,
         ticks,
+        gap,
         [[0, 0], [0, 0]],
         starts,
         ends,
@@ -193,6 +198,7 @@ pub fn in_round(
 // The same of a run.
 pub fn in_run(
     ticks: u16,
+    gap: u16,
     hours: [[u16; 2]; 2],
     starts: &[u16],
     ends: &[u16],
@@ -203,6 +209,7 @@ pub fn in_run(
     is_planned(
         Kind::Run,
         ticks,
+        gap,
         hours,
         starts,
         ends,
@@ -218,6 +225,7 @@ pub fn in_run(
 fn write(
     kind: Kind,
     ticks: u16,
+    gap: u16,
     hours: [[u16; 2]; 2],
     starts: &[u16],
     ends: &[u16],
@@ -228,7 +236,7 @@ fn write(
 ) -> Answer {
     let n = at_most(bytes, tape.len());
     plan_tape::write_plan(
-        table::setting_of(kind, ticks, hours),
+        table::setting_of(kind, ticks, gap, hours),
         starts,
         ends,
         marks,
@@ -241,6 +249,7 @@ fn write(
 pub fn is_taped(
     kind: Kind,
     ticks: u16,
+    gap: u16,
     hours: [[u16; 2]; 2],
     starts: &[u16],
     ends: &[u16],
@@ -254,6 +263,7 @@ pub fn is_taped(
     let answer = write(
         kind,
         ticks,
+        gap,
         hours,
         starts,
         ends,

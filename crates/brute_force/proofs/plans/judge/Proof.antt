@@ -4,10 +4,10 @@ use Rattle.brute_force.proofs.plans.judge.Statement.{statement}
 use Rattle.brute_force.proofs.plans.judge.Tie as tie
 
 abbrev Inv-loop : tie.InvT-loop
-Inv-loop rows number sets permissions p₀ rest₀ row₀ p rest row = Unit {0}
+Inv-loop rows number clashes permissions p₀ rest₀ row₀ p rest row = Unit {0}
 
 abbrev μ-loop : tie.MeasureT-loop
-μ-loop rows number sets permissions p₀ rest₀ row₀ p rest row = row
+μ-loop rows number clashes permissions p₀ rest₀ row₀ p rest row = row
 
 loop-holds : tie.Need-loop-holds Inv-loop μ-loop
 loop-holds c = tt
@@ -15,11 +15,14 @@ loop-holds c = tt
 sub-row : tie.Need-sub-row Inv-loop μ-loop
 sub-row c = omega arith
 
-set-of-requires : tie.Need-set-of-requires Inv-loop μ-loop
-set-of-requires c κs = tt
+one-requires : tie.Need-one-requires Inv-loop μ-loop
+one-requires c κs = tt
 
-permission-of-requires : tie.Need-permission-of-requires Inv-loop μ-loop
-permission-of-requires c κs = tt
+entry-requires : tie.Need-entry-requires Inv-loop μ-loop
+entry-requires c κs = tt
+
+entry-requires-2 : tie.Need-entry-requires-2 Inv-loop μ-loop
+entry-requires-2 c κs = tt
 
 with-row-requires : tie.Need-with-row-requires Inv-loop μ-loop
 with-row-requires c κs = tt
@@ -47,8 +50,9 @@ judge-spec =
     μ-loop
     loop-holds
     sub-row
-    set-of-requires
-    permission-of-requires
+    one-requires
+    entry-requires
+    entry-requires-2
     with-row-requires
     returns
     loop-less

@@ -5,10 +5,10 @@ use Rattle.brute_force.proofs.plans.search.Statement.{statement}
 use Rattle.brute_force.proofs.plans.search.Tie as tie
 
 abbrev Inv-loop : tie.InvT-loop
-Inv-loop rows sets permissions s₀ number₀ number-end s number = Unit {0}
+Inv-loop rows clashes permissions s₀ number₀ number-end s number = Unit {0}
 
 abbrev μ-loop : tie.MeasureT-loop
-μ-loop rows sets permissions s₀ number₀ number-end s number = number-end - number
+μ-loop rows clashes permissions s₀ number₀ number-end s number = number-end - number
 
 lists-requires : tie.Need-lists-requires Inv-loop μ-loop
 lists-requires c κs = tt

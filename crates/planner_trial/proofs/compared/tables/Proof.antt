@@ -19,6 +19,15 @@ nothing-requires-2 c κs = tt
 nothing-requires-3 : tie.Need-nothing-requires-3 Inv-loop μ-loop
 nothing-requires-3 c κs = tt
 
+nothing-requires-4 : tie.Need-nothing-requires-4 Inv-loop μ-loop
+nothing-requires-4 c κs = tt
+
+nothing-requires-5 : tie.Need-nothing-requires-5 Inv-loop μ-loop
+nothing-requires-5 c κs = tt
+
+nothing-requires-6 : tie.Need-nothing-requires-6 Inv-loop μ-loop
+nothing-requires-6 c κs = tt
+
 loop-holds : tie.Need-loop-holds Inv-loop μ-loop
 loop-holds c = tt
 
@@ -40,4 +49,4 @@ returns c = tt
 pub tables-spec : {M : Type 1} → statement M
 tables-spec =
     tie.close
-    (tie.spec Inv-loop μ-loop nothing-requires nothing-requires-2 nothing-requires-3 loop-holds with-table-requires add-turn loop-less loop-again returns)
+    (tie.spec Inv-loop μ-loop nothing-requires nothing-requires-2 nothing-requires-3 nothing-requires-4 nothing-requires-5 nothing-requires-6 loop-holds with-table-requires add-turn loop-less loop-again returns)

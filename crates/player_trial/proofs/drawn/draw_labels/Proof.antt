@@ -5,10 +5,10 @@ use Rattle.player_trial.proofs.drawn.draw_labels.Statement.{statement}
 use Rattle.player_trial.proofs.drawn.draw_labels.Tie as tie
 
 abbrev Inv-loop : tie.InvT-loop
-Inv-loop starts ends rows time days₀ state n labels₀ s₀ row₀ days labels s row = Unit {0}
+Inv-loop starts ends rows time gap days₀ state n labels₀ s₀ row₀ days labels s row = Unit {0}
 
 abbrev μ-loop : tie.MeasureT-loop
-μ-loop starts ends rows time days₀ state n labels₀ s₀ row₀ days labels s row = n - row
+μ-loop starts ends rows time gap days₀ state n labels₀ s₀ row₀ days labels s row = n - row
 
 at-most-requires : tie.Need-at-most-requires Inv-loop μ-loop
 at-most-requires c κs = search needs

@@ -5,10 +5,10 @@ use Rattle.player_trial.proofs.made.tables.Statement.{statement}
 use Rattle.player_trial.proofs.made.tables.Tie as tie
 
 abbrev Inv-loop : tie.InvT-loop
-Inv-loop each n tally₀ state₀ i₀ tally state i = Unit {0}
+Inv-loop which n tally₀ state₀ i₀ tally state i = Unit {0}
 
 abbrev μ-loop : tie.MeasureT-loop
-μ-loop each n tally₀ state₀ i₀ tally state i = n - i
+μ-loop which n tally₀ state₀ i₀ tally state i = n - i
 
 no-steps-requires : tie.Need-no-steps-requires Inv-loop μ-loop
 no-steps-requires c κs = search needs
