@@ -1,5 +1,5 @@
-/* Paper 01's session in C: plans the round P2, prints the labels, then the bytes of the plan tape, then what hubplan prints for the fleet tape, then what a player of the
- * plan tape tells at some ticks.
+/* Paper 01's session in C: plans the round P2 with a gap and without one and prints the labels, then the bytes of the plan tape, then what hubplan prints for the fleet tape,
+ * then what a player of the plan tape tells at some ticks.
  *
  *   rt staticlib hub_c
  *   gcc -std=c99 -Wall -Wextra -Werror -Iinclude examples/session.c target/staticlib/libhub_c.a -o target/session && target/session
@@ -24,6 +24,19 @@ static int refused(const char *what, unsigned number)
 {
     fprintf(stderr, "%s: refused %u\n", what, number);
     return 1;
+}
+
+/* Plans the round with a gap and prints the labels; 1 where it is refused. */
+static int print_plan(uint16_t gap, uint8_t labels[ROWS])
+{
+    struct hub_answer plan = hub_plan_round(ticks, gap, starts, ROWS, ends, ROWS, marks, ROWS, labels, ROWS, space, sizeof space);
+    if (plan.refusal != HUB_ACCEPTED)
+        return refused("plan", plan.refusal);
+    printf("gap %u: heard %zu, labels", (unsigned)gap, plan.count);
+    for (size_t i = 0; i < ROWS; i++)
+        printf(" %u", (unsigned)labels[i]);
+    printf("\n");
+    return 0;
 }
 
 static void print_receiver(unsigned number, struct hub_receiver receiver)
@@ -56,23 +69,20 @@ static int play(const uint8_t *tape, size_t length, uint16_t first, unsigned ste
 int main(void)
 {
     uint8_t labels[ROWS] = {0};
-    struct hub_answer plan = hub_plan_round(ticks, starts, ROWS, ends, ROWS, marks, ROWS, labels, ROWS, space, sizeof space);
-    if (plan.refusal != HUB_ACCEPTED)
-        return refused("plan", plan.refusal);
-    printf("heard %zu, labels", plan.count);
-    for (size_t i = 0; i < ROWS; i++)
-        printf(" %u", (unsigned)labels[i]);
+    /* a receiver that needs a tick between two windows cannot hear row 3, to 10, and row 0, from 10 */
+    if (print_plan(1, labels) || print_plan(0, labels))
+        return 1;
 
     uint8_t tape[HUB_PLAN_TAPE_BYTES];
-    struct hub_answer written = hub_write_plan_round(ticks, starts, ROWS, ends, ROWS, marks, ROWS, labels, ROWS, tape, sizeof tape);
+    struct hub_answer written = hub_write_plan_round(ticks, 0, starts, ROWS, ends, ROWS, marks, ROWS, labels, ROWS, tape, sizeof tape);
     if (written.refusal != HUB_ACCEPTED)
         return refused("plan tape", written.refusal);
-    printf("\nplan tape of %zu bytes", written.count);
+    printf("plan tape of %zu bytes", written.count);
     for (size_t i = 0; i < written.count; i++)
         printf(" %02X", (unsigned)tape[i]);
 
     /* a buffer of one byte less is refused */
-    struct hub_answer too_short = hub_write_plan_round(ticks, starts, ROWS, ends, ROWS, marks, ROWS, labels, ROWS, tape, written.count - 1);
+    struct hub_answer too_short = hub_write_plan_round(ticks, 0, starts, ROWS, ends, ROWS, marks, ROWS, labels, ROWS, tape, written.count - 1);
     printf("\nbuffer of %zu bytes: refused %u\n", written.count - 1, (unsigned)too_short.refusal);
 
     uint8_t text[HUB_REPLY_BYTES];

@@ -21,23 +21,25 @@ extern "C" {
 /* Refusals, by their numbers in papers 01 and 02. The first that applies is reported, in the order given at each function. */
 enum hub_refusal {
     HUB_ACCEPTED = 0,
-    HUB_LISTS = 1,      /* lent lists differ in length; in hub_read_fleet, a list has other than 64 places */
-    HUB_ROWS = 2,       /* more than 64 rows */
-    HUB_SPACE = 3,      /* working space shorter than HUB_SPACE_BYTES */
-    HUB_TICKS = 4,      /* ticks outside 2 to 43,200 */
-    HUB_HOURS = 5,      /* open hours wrong: p above q, or q above ticks (run only) */
-    HUB_WINDOW = 6,     /* a window breaks the rules: in a round start and end below ticks, equal or not; in a run start below end and end at most ticks */
-    HUB_MARK = 7,       /* a mark above 5 */
-    HUB_NO_PLAN = 8,    /* no plan exists */
-    HUB_NOT_PLAN = 9,   /* labels offered to the writer are not a plan */
-    HUB_BUFFER = 10,    /* plan tape buffer shorter than the tape */
-    HUB_FORM = 11,      /* not of the form of a fleet tape */
-    HUB_TAPE = 12,      /* not a plan tape that the writer can write, for any table and labels */
-    HUB_FIRST_TICK = 13 /* first tick of a player not below the tape's ticks */
+    HUB_LISTS = 1,       /* lent lists differ in length; in hub_read_fleet, a list has other than 64 places */
+    HUB_ROWS = 2,        /* more than 64 rows */
+    HUB_SPACE = 3,       /* working space shorter than HUB_SPACE_BYTES */
+    HUB_TICKS = 4,       /* ticks outside 2 to 43,200 */
+    HUB_HOURS = 5,       /* open hours wrong: p above q, or q above ticks (run only) */
+    HUB_WINDOW = 6,      /* a window breaks the rules: in a round start and end below ticks, equal or not; in a run start below end and end at most ticks */
+    HUB_MARK = 7,        /* a mark above 5 */
+    HUB_NO_PLAN = 8,     /* no plan exists */
+    HUB_NOT_PLAN = 9,    /* labels offered to the writer are not a plan */
+    HUB_BUFFER = 10,     /* plan tape buffer shorter than the tape */
+    HUB_FORM = 11,       /* not of the form of a fleet tape */
+    HUB_TAPE = 12,       /* not a plan tape that the writer can write, for any table and labels */
+    HUB_FIRST_TICK = 13, /* first tick of a player not below the tape's ticks */
+    HUB_GAP = 14         /* gap above 600 */
 };
 
 enum {
     HUB_MOST_ROWS = 64,
+    HUB_MOST_GAP = 600,
     HUB_SPACE_BYTES = 16384,    /* working space of the planner */
     HUB_PLAN_TAPE_BYTES = 392,  /* the longest plan tape: 8 + 6 * 64 */
     HUB_FLEET_TAPE_BYTES = 400, /* the longest fleet tape that hub_reply takes */
@@ -64,14 +66,17 @@ struct hub_answer {
  * heard, by either receiver; 2 may and 3 must be heard, by receiver 1 only; 4 may and 5 must be heard, by receiver 2 only.
  *
  * A window covers start, start + 1 and so on, going from ticks - 1 to 0, up to the tick before end. Start equal to end covers every tick: a beacon that sends all day, whose
- * window overlaps every other. Two windows overlap exactly if some tick lies in both, and no two rows of one receiver overlap in a plan.
+ * window overlaps every other. Two windows overlap exactly if some tick lies in both.
+ *
+ * A receiver needs `gap` ticks between two different windows. Two windows are too close exactly if they overlap or have fewer than `gap` ticks between them, on either side of
+ * the round; windows that touch have 0 between them. No two rows of one receiver are too close in a plan; one row alone needs no gap.
  *
  * Accepted: labels are the plan with the most heard rows (label 1 or 2, the receiver; 0 is not heard), and of those the one that comes first in paper 01's order; no
  * other list of labels that is a plan hears more. The count is the number of labels that are 1 or 2. The first HUB_SPACE_BYTES of the working space are cleared to
  * zero, bytes beyond are untouched. What labels and working space held before makes no difference.
  * Refusal 8 exactly if no list of labels is a plan: labels are untouched, the same part of the working space is cleared.
- * Any other refusal: labels and working space are untouched. Order: 1, 2, 3, 4, rows from 0, each for 6 and then 7, then 8. */
-struct hub_answer hub_plan_round(uint16_t ticks,
+ * Any other refusal: labels and working space are untouched. Order: 1, 2, 3, 4, 14, rows from 0, each for 6 and then 7, then 8. */
+struct hub_answer hub_plan_round(uint16_t ticks, uint16_t gap,
                                  const uint16_t *starts, size_t starts_length,
                                  const uint16_t *ends, size_t ends_length,
                                  const uint8_t *marks, size_t marks_length,
@@ -79,9 +84,9 @@ struct hub_answer hub_plan_round(uint16_t ticks,
                                  uint8_t *space, size_t space_length);
 
 /* Plans a run of `ticks` ticks in which receiver 1 is open from p1 to q1 and receiver 2 from p2 to q2: a receiver can take a window only if p <= start and end <= q.
- * A window covers start to end - 1; start equal to end is refused. The promise is that of hub_plan_round, with the hours as part of what a plan is. Order: 1, 2, 3, 4, 5,
- * rows for 6 and 7, then 8. */
-struct hub_answer hub_plan_run(uint16_t ticks, uint16_t p1, uint16_t q1, uint16_t p2, uint16_t q2,
+ * A window covers start to end - 1; start equal to end is refused. No gap is counted from the last window on to the first, nor between a window and the hours. The promise is
+ * that of hub_plan_round, with the hours as part of what a plan is. Order: 1, 2, 3, 4, 5, 14, rows for 6 and 7, then 8. */
+struct hub_answer hub_plan_run(uint16_t ticks, uint16_t gap, uint16_t p1, uint16_t q1, uint16_t p2, uint16_t q2,
                                const uint16_t *starts, size_t starts_length,
                                const uint16_t *ends, size_t ends_length,
                                const uint8_t *marks, size_t marks_length,
@@ -90,17 +95,17 @@ struct hub_answer hub_plan_run(uint16_t ticks, uint16_t p1, uint16_t q1, uint16_
 
 /* Writes the plan tape of a round and labels.
  *
- * Accepted exactly if the labels are a plan of the table and the buffer `tape` is long enough: the tape, 8 + 6 * heard rows bytes, stands at the front of the buffer,
- * the bytes after it are untouched, and the count is the tape's length. On a refusal the buffer is untouched. Order: 1, 2, 4, rows for 6 and 7, 9, 10. */
-struct hub_answer hub_write_plan_round(uint16_t ticks,
+ * Accepted exactly if the labels are a plan of the table with this gap and the buffer `tape` is long enough: the tape, 8 + 6 * heard rows bytes, stands at the front of the
+ * buffer, the bytes after it are untouched, and the count is the tape's length. On a refusal the buffer is untouched. Order: 1, 2, 4, 14, rows for 6 and 7, 9, 10. */
+struct hub_answer hub_write_plan_round(uint16_t ticks, uint16_t gap,
                                        const uint16_t *starts, size_t starts_length,
                                        const uint16_t *ends, size_t ends_length,
                                        const uint8_t *marks, size_t marks_length,
                                        const uint8_t *labels, size_t labels_length,
                                        uint8_t *tape, size_t tape_length);
 
-/* The same for a run. Order: 1, 2, 4, 5, rows for 6 and 7, 9, 10. */
-struct hub_answer hub_write_plan_run(uint16_t ticks, uint16_t p1, uint16_t q1, uint16_t p2, uint16_t q2,
+/* The same for a run. Order: 1, 2, 4, 5, 14, rows for 6 and 7, 9, 10. */
+struct hub_answer hub_write_plan_run(uint16_t ticks, uint16_t gap, uint16_t p1, uint16_t q1, uint16_t p2, uint16_t q2,
                                      const uint16_t *starts, size_t starts_length,
                                      const uint16_t *ends, size_t ends_length,
                                      const uint8_t *marks, size_t marks_length,
@@ -129,8 +134,8 @@ struct hub_report hub_read_fleet(const uint8_t *tape, size_t tape_length,
                                  uint8_t *marks, size_t marks_length);
 
 /* Writes to the front of `out` what `hubplan` prints for a fleet tape, and returns how many bytes that is: "heard" and the count, then a line per row with its number
- * and label; or "refused" and the number. A tape longer than 400 bytes gives "refused 11". The rest of `out` is untouched; the working space is left as the planner
- * leaves it, and untouched where the planner is not reached. Where `out` is shorter than HUB_REPLY_BYTES nothing is written and the result is 0. */
+ * and label; or "refused" and the number. The gap is 0. A tape longer than 400 bytes gives "refused 11". The rest of `out` is untouched; the working space is left as the
+ * planner leaves it, and untouched where the planner is not reached. Where `out` is shorter than HUB_REPLY_BYTES nothing is written and the result is 0. */
 size_t hub_reply(const uint8_t *tape, size_t tape_length,
                  uint8_t *out, size_t out_length,
                  uint8_t *space, size_t space_length);
@@ -165,9 +170,9 @@ struct hub_stepped {
 
 /* Starts a player on a plan tape, at the tick `first`.
  *
- * Accepted exactly if the writer can write these bytes, all of them, for some table and labels (of a run, with hours 0 to ticks), and `first` is below the ticks of the
- * tape: the player's tick is `first`, and its steps follow the tape, as hub_player_step says. On a refusal the player's tick is 65,535, so it is finished on every tape.
- * Order: 12, 13. */
+ * Accepted exactly if the writer can write these bytes, all of them, for some table and labels with a gap of 0 (of a run, with hours 0 to ticks), and `first` is below the
+ * ticks of the tape: the player's tick is `first`, and its steps follow the tape, as hub_player_step says. So every tape written with any gap is taken. On a refusal the
+ * player's tick is 65,535, so it is finished on every tape. Order: 12, 13. */
 struct hub_started hub_player_start(const uint8_t *tape, size_t tape_length, uint16_t first);
 
 /* A step of a player: tells what each receiver does at the player's tick, and moves on by one tick.

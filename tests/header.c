@@ -1,5 +1,6 @@
 /* Tests include/hubplan.h by itself: every function is called as the header declares it, on paper 01's session, on runs with unequal hours, with each mark, with windows that
- * cover every tick, at each limit and for each refusal, and every constant, field and parameter is compared with the papers'. The numbers here are the papers', since the header's constants are what is tested.
+ * cover every tick, with gaps, at each limit and for each refusal, and every constant, field and parameter is compared with the papers'. The numbers here are the papers', since
+ * the header's constants are what is tested.
  *
  *   gcc -std=c99 -Wall -Wextra -Wpedantic -Werror -Iinclude tests/header.c target/staticlib/libhub_c.a -o target/header && target/header
  */
@@ -35,7 +36,7 @@
 /* A table as it is lent, with each length apart, so that one alone can be wrong. The hours count in a run only. */
 struct lent {
     bool run;
-    uint16_t ticks, p1, q1, p2, q2;
+    uint16_t ticks, gap, p1, q1, p2, q2;
     uint16_t starts[ROWS + 1], ends[ROWS + 1];
     uint8_t marks[ROWS + 1], labels[ROWS + 1 + BEYOND];
     size_t starts_length, ends_length, marks_length, labels_length, space_length, tape_length;
@@ -58,8 +59,8 @@ static uint8_t tape[TAPE + BEYOND];
 static uint8_t out[REPLY + BEYOND];
 
 /* The header's refusals at the papers' numbers. */
-static const unsigned refusals[14] = {HUB_ACCEPTED, HUB_LISTS,   HUB_ROWS,     HUB_SPACE,  HUB_TICKS, HUB_HOURS, HUB_WINDOW,
-                                      HUB_MARK,     HUB_NO_PLAN, HUB_NOT_PLAN, HUB_BUFFER, HUB_FORM,  HUB_TAPE,  HUB_FIRST_TICK};
+static const unsigned refusals[15] = {HUB_ACCEPTED, HUB_LISTS,   HUB_ROWS,     HUB_SPACE,  HUB_TICKS, HUB_HOURS, HUB_WINDOW, HUB_MARK,
+                                      HUB_NO_PLAN,  HUB_NOT_PLAN, HUB_BUFFER,  HUB_FORM,   HUB_TAPE,  HUB_FIRST_TICK, HUB_GAP};
 
 /* Plan tapes of the session and of P9. */
 static const uint8_t session_tape[26] = {0x10, 0x00, 0x64, 0x20, 0x01, 0x30, 0x00, 0x00, 0x0A, 0x00, 0x1E, 0x30, 0x03,
@@ -115,7 +116,7 @@ static void set_rows(struct lent *t, size_t rows)
     t->starts_length = t->ends_length = t->marks_length = t->labels_length = rows;
 }
 
-/* A table of 100 ticks with P9's hours, and no mark. */
+/* A table of 100 ticks with P9's hours, and no mark or gap. */
 static struct lent lend(bool run, size_t rows, uint16_t windows[][2])
 {
     struct lent t;
@@ -178,9 +179,9 @@ static struct hub_answer plan(struct lent *t)
     memset(space, BEFORE, sizeof space);
     memset(t->labels, BEFORE, sizeof t->labels);
     if (t->run)
-        return hub_plan_run(t->ticks, t->p1, t->q1, t->p2, t->q2, t->starts, t->starts_length, t->ends, t->ends_length, t->marks, t->marks_length,
+        return hub_plan_run(t->ticks, t->gap, t->p1, t->q1, t->p2, t->q2, t->starts, t->starts_length, t->ends, t->ends_length, t->marks, t->marks_length,
                             t->labels, t->labels_length, space, t->space_length);
-    return hub_plan_round(t->ticks, t->starts, t->starts_length, t->ends, t->ends_length, t->marks, t->marks_length, t->labels, t->labels_length, space,
+    return hub_plan_round(t->ticks, t->gap, t->starts, t->starts_length, t->ends, t->ends_length, t->marks, t->marks_length, t->labels, t->labels_length, space,
                           t->space_length);
 }
 
@@ -215,9 +216,9 @@ static struct hub_answer write_plan(const struct lent *t)
 {
     memset(tape, BEFORE, sizeof tape);
     if (t->run)
-        return hub_write_plan_run(t->ticks, t->p1, t->q1, t->p2, t->q2, t->starts, t->starts_length, t->ends, t->ends_length, t->marks, t->marks_length,
+        return hub_write_plan_run(t->ticks, t->gap, t->p1, t->q1, t->p2, t->q2, t->starts, t->starts_length, t->ends, t->ends_length, t->marks, t->marks_length,
                                   t->labels, t->labels_length, tape, t->tape_length);
-    return hub_write_plan_round(t->ticks, t->starts, t->starts_length, t->ends, t->ends_length, t->marks, t->marks_length, t->labels, t->labels_length,
+    return hub_write_plan_round(t->ticks, t->gap, t->starts, t->starts_length, t->ends, t->ends_length, t->marks, t->marks_length, t->labels, t->labels_length,
                                 tape, t->tape_length);
 }
 
@@ -453,12 +454,13 @@ static void start_refused(const char *what, const uint8_t *bytes, size_t length,
 
 static void constants(void)
 {
-    for (unsigned i = 0; i < 14; i++)
+    for (unsigned i = 0; i < 15; i++)
         check("a refusal", "its constant is the papers' number", refusals[i] == i);
     check("marks", "for either receiver", HUB_MAY == 0 && HUB_MUST == 1);
     check("marks", "for receiver 1 only", HUB_MAY_1 == 2 && HUB_MUST_1 == 3);
     check("marks", "for receiver 2 only", HUB_MAY_2 == 4 && HUB_MUST_2 == 5);
     check("constants", "HUB_MOST_ROWS", HUB_MOST_ROWS == ROWS);
+    check("constants", "HUB_MOST_GAP", HUB_MOST_GAP == 600);
     check("constants", "HUB_SPACE_BYTES", HUB_SPACE_BYTES == SPACE);
     check("constants", "HUB_PLAN_TAPE_BYTES", HUB_PLAN_TAPE_BYTES == TAPE);
     check("constants", "HUB_FLEET_TAPE_BYTES", HUB_FLEET_TAPE_BYTES == 400);
@@ -503,7 +505,7 @@ static void structs(void)
     end_group("structs");
 }
 
-#define TICKS "uint16_t ticks"
+#define TICKS "uint16_t ticks, uint16_t gap"
 #define HOURS ", uint16_t p1, uint16_t q1, uint16_t p2, uint16_t q2"
 #define TABLE ", const uint16_t *starts, size_t starts_length, const uint16_t *ends, size_t ends_length, const uint8_t *marks, size_t marks_length"
 #define PLANS ", uint8_t *labels, size_t labels_length, uint8_t *space, size_t space_length"
@@ -594,18 +596,23 @@ static const char *reply_with(const char *labels, char text[REPLY])
     return text;
 }
 
-/* The planner and the reply give these labels, and the writer takes them; no labels for refusal 8. */
+/* The planner gives these labels, and the writer takes them; no labels for refusal 8. */
 static void planned_or_8(const char *what, struct lent *t, const char *labels)
 {
-    char text[REPLY];
     if (!labels) {
         plan_refused(what, t, 8);
-        replied_to(what, t, "refused 8\n", true);
         return;
     }
     planned(what, t, labels);
     check(what, "the writer takes the plan", write_plan(t).refusal == 0);
-    replied_to(what, t, reply_with(labels, text), true);
+}
+
+/* The same of a table with no gap, and the reply. */
+static void planned_and_replied(const char *what, struct lent *t, const char *labels)
+{
+    char text[REPLY];
+    planned_or_8(what, t, labels);
+    replied_to(what, t, labels ? reply_with(labels, text) : "refused 8\n", true);
 }
 
 /* Worked examples: windows, marks and labels; no labels for refusal 8. */
@@ -621,7 +628,7 @@ static void marks_planned(bool run)
         char what[60];
         struct lent t = marked(run, examples[e].windows, examples[e].marks);
         snprintf(what, sizeof what, "%s with marks %s", run ? "a run" : "a round", examples[e].marks);
-        planned_or_8(what, &t, examples[e].labels);
+        planned_and_replied(what, &t, examples[e].labels);
     }
 }
 
@@ -722,7 +729,7 @@ static void all_day_planned(void)
         struct lent t = marked(false, examples[e].windows, examples[e].marks);
         t.ticks = examples[e].ticks;
         snprintf(what, sizeof what, "all day of %u with marks %s", t.ticks, examples[e].marks);
-        planned_or_8(what, &t, examples[e].labels);
+        planned_and_replied(what, &t, examples[e].labels);
     }
 }
 
@@ -737,7 +744,7 @@ static void all_day_taken(bool run, uint16_t ticks)
         t.ticks = t.q1 = t.q2 = ticks;
         snprintf(what, sizeof what, "%u to %u in a %s of %u", starts[i], starts[i], run ? "run" : "round", ticks);
         if (!run && starts[i] < ticks) {
-            planned_or_8(what, &t, "1");
+            planned_and_replied(what, &t, "1");
             continue;
         }
         plan_refused(what, &t, 6);
@@ -809,12 +816,87 @@ static void all_day(void)
     end_group("all day");
 }
 
+/* Worked examples of gaps: kind, gap, windows, marks and labels, in 10 ticks; no labels for refusal 8. */
+static void gaps_planned(void)
+{
+    static uint16_t touch[2][2] = {{8, 2}, {2, 8}}, run_touch[2][2] = {{5, 10}, {0, 5}}, two_and_one[2][2] = {{0, 3}, {5, 9}}, two_and_two[2][2] = {{0, 3}, {5, 8}},
+                    far[3][2] = {{0, 1}, {5, 6}, {8, 9}}, ends[2][2] = {{8, 10}, {0, 2}}, all_but_2[2][2] = {{3, 1}, {3, 1}}, all[1][2] = {{3, 3}}, run_all[1][2] = {{0, 10}};
+    static const struct { bool run; uint16_t gap, (*windows)[2]; const char *marks, *labels; } examples[] = {
+        {false, 0, touch, "00", "11"},       {false, 1, touch, "00", "12"},       {false, 1, touch, "33", NULL},
+        {true, 0, run_touch, "00", "11"},    {true, 1, run_touch, "00", "12"},    {true, 1, run_touch, "55", NULL},
+        {false, 1, two_and_one, "00", "11"}, {false, 2, two_and_one, "00", "12"}, {false, 2, two_and_one, "33", NULL},
+        {false, 2, two_and_two, "00", "11"}, {false, 3, two_and_two, "00", "12"}, {true, 2, two_and_one, "00", "11"},
+        {true, 3, two_and_one, "00", "12"},  {true, 6, ends, "33", "11"},         {true, 7, ends, "33", NULL},
+        {false, 10, far, "000", "120"},      {false, 600, far, "000", "120"},     {false, 10, far, "111", NULL},
+        {true, 10, far, "000", "120"},       {true, 600, far, "111", NULL},       {false, 3, all_but_2, "1", "1"},
+        {false, 600, all_but_2, "11", "12"}, {false, 600, all, "5", "2"},         {true, 600, run_all, "3", "1"}};
+    for (size_t e = 0; e < sizeof examples / sizeof *examples; e++) {
+        char what[60];
+        struct lent t = marked(examples[e].run, examples[e].windows, examples[e].marks);
+        t.gap = examples[e].gap;
+        snprintf(what, sizeof what, "example %zu of gaps, gap %u", e, t.gap);
+        planned_or_8(what, &t, examples[e].labels);
+    }
+}
+
+/* The session with every gap: row 3 has no tick before row 0, 10 before row 1 and 15 before row 2. The writer takes P2's plan with no gap alone, and the plan of gap 10 up to
+ * there; the player takes its tape. */
+static void gaps_of_session(void)
+{
+    static const uint8_t bytes[26] = {0x10, 0, 100, 0x20, 1, 0x30, 0, 0, 10, 0, 30, 0x20, 2, 0x30, 1, 0, 20, 0, 40, 0x30, 3, 0, 90, 0, 10, 0x7F};
+    struct lent t = session();
+    for (t.gap = 0; t.gap <= 600; t.gap++) {
+        char what[60];
+        snprintf(what, sizeof what, "P2 with gap %u", t.gap);
+        planned(what, &t, t.gap == 0 ? "1201" : t.gap <= 10 ? "1202" : t.gap <= 15 ? "1022" : "1200");
+        set_labels(&t, "1201");
+        if (t.gap == 0)
+            written(what, &t, session_tape, sizeof session_tape);
+        else
+            write_refused(what, &t, 9);
+        set_labels(&t, "1202");
+        if (t.gap <= 10)
+            written(what, &t, bytes, sizeof bytes);
+        else
+            write_refused(what, &t, 9);
+    }
+    check_refusal("a tape written with a gap", hub_player_start(bytes, sizeof bytes, 0).refusal, 0);
+}
+
+/* The longest gap and those above it: planner and writer. */
+static void gaps_refused(bool run)
+{
+    static const uint16_t above[3] = {601, 43200, 65535};
+    uint16_t windows[2][2] = {{10, 20}, {45, 50}};
+    struct lent t = lend(run, 2, windows);
+    t.gap = 600;
+    planned_or_8("gap 600", &t, "12");
+    for (size_t i = 0; i < 3; i++) {
+        char what[60];
+        t.gap = above[i];
+        snprintf(what, sizeof what, "gap %u", t.gap);
+        plan_refused(what, &t, 14);
+        set_labels(&t, "12");
+        write_refused(what, &t, 14);
+    }
+}
+
+static void gaps(void)
+{
+    gaps_planned();
+    gaps_of_session();
+    gaps_refused(false);
+    gaps_refused(true);
+    end_group("gaps");
+}
+
 /* Wrong in every way: mended one by one, the refusals come in the order that the header gives. */
 static struct lent all_wrong(bool run)
 {
     struct lent t = many(run, ROWS + 1);
     t.ticks = 1;
     t.p1 = 51;
+    t.gap = 601;
     t.ends[0] = run ? 0 : 100; /* the start in a run, R in a round */
     t.marks[0] = 6;
     for (size_t i = 1; i < 4; i++) /* three rows that must be heard at once, in the hours of both receivers */
@@ -851,6 +933,8 @@ static void plan_refusals(const char *what, bool run)
     if (run)
         plan_refused(what, &t, 5);
     t.p1 = 0;
+    plan_refused(what, &t, 14);
+    t.gap = 0;
     plan_refused(what, &t, 6);
     t.ends[0] = 1;
     plan_refused(what, &t, 7);
@@ -879,6 +963,8 @@ static void write_refusals(const char *what, bool run)
     if (run)
         write_refused(what, &t, 5);
     t.p1 = 0;
+    write_refused(what, &t, 14);
+    t.gap = 0;
     write_refused(what, &t, 6);
     t.ends[0] = 1;
     write_refused(what, &t, 7);
@@ -1134,6 +1220,7 @@ int main(void)
     runs();
     marks();
     all_day();
+    gaps();
     all_refusals();
     limits();
     replies();

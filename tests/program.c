@@ -314,6 +314,21 @@ static void all_day(void)
     all_day_edges();
 }
 
+/* Windows that touch, P7, P11 and a run: "`hubplan` uses 0" as the gap, and with 1 the second row would be on receiver 2. */
+static void gaps(void)
+{
+    static const unsigned commands[2] = {WINDOW, WINDOW}, p7[2][2] = {{8, 2}, {2, 8}};
+    begin_kind("gap");
+    make_stopped(few_rows(2, commands, p7), "heard 2\n0 1\n1 1\n");
+    struct tape t = one_window(2, 0, 1);
+    put_row(&t, WINDOW, 1, 0);
+    make_stopped(t, "heard 2\n0 1\n1 1\n");
+    t = run_of(10, 0, 10, 0, 10);
+    put_row(&t, WINDOW, 0, 5);
+    put_row(&t, WINDOW, 5, 10);
+    make_stopped(t, "heard 2\n0 1\n1 1\n");
+}
+
 /* The replies of the planner's refusals, with the nearest tapes that are taken. A tape has no mark above 5, so 7 cannot come. */
 static void refused(void)
 {
@@ -451,6 +466,7 @@ int main(int count, char **words)
     longer();
     marks();
     all_day();
+    gaps();
     refused();
     random_tapes();
     damaged_tapes();

@@ -1,5 +1,5 @@
-/* Measures how many bytes of stack each function of include/hubplan.h uses, the most over three tables of 64 rows: one of which many rows are heard, one of which few are,
- * and one that is refused. Each call is made on a stack of its own that was filled with a pattern, and what a call that does nothing uses is taken off.
+/* Measures how many bytes of stack each function of include/hubplan.h uses, the most over three tables of 64 rows, with a gap of 60: one of which many rows are heard, one of
+ * which few are, and one that is refused. Each call is made on a stack of its own that was filled with a pattern, and what a call that does nothing uses is taken off.
  *
  *   gcc -std=c99 -O2 -Wall -Wextra -Wpedantic -Werror -Iinclude tests/stack.c target/staticlib/libhub_c.a -o target/stack && target/stack
  */
@@ -20,10 +20,10 @@ static uint8_t marks[64], labels[64], space[16384], tape[400], out[400], plan[40
 static size_t rows, tape_length, plan_length;
 
 static void nothing(void) {}
-static void plan_round(void) { hub_plan_round(43200, starts, rows, ends, rows, marks, rows, labels, rows, space, sizeof space); }
-static void plan_run(void) { hub_plan_run(43200, 0, 43200, 0, 43200, starts, rows, ends, rows, marks, rows, labels, rows, space, sizeof space); }
-static void write_round(void) { hub_write_plan_round(43200, starts, rows, ends, rows, marks, rows, labels, rows, out, sizeof out); }
-static void write_run(void) { hub_write_plan_run(43200, 0, 43200, 0, 43200, starts, rows, ends, rows, marks, rows, labels, rows, out, sizeof out); }
+static void plan_round(void) { hub_plan_round(43200, 60, starts, rows, ends, rows, marks, rows, labels, rows, space, sizeof space); }
+static void plan_run(void) { hub_plan_run(43200, 60, 0, 43200, 0, 43200, starts, rows, ends, rows, marks, rows, labels, rows, space, sizeof space); }
+static void write_round(void) { hub_write_plan_round(43200, 60, starts, rows, ends, rows, marks, rows, labels, rows, out, sizeof out); }
+static void write_run(void) { hub_write_plan_run(43200, 60, 0, 43200, 0, 43200, starts, rows, ends, rows, marks, rows, labels, rows, out, sizeof out); }
 static void read_fleet(void) { hub_read_fleet(tape, tape_length, starts, 64, ends, 64, marks, 64); }
 static void reply(void) { hub_reply(tape, tape_length, out, sizeof out, space, sizeof space); }
 static void player_start(void) { hub_player_start(plan, plan_length, 0); }
@@ -33,7 +33,7 @@ static void player_step(void) { hub_player_step(plan, plan_length, (struct hub_p
 static void make_plan_tape(void)
 {
     plan_run();
-    plan_length = hub_write_plan_run(43200, 0, 43200, 0, 43200, starts, rows, ends, rows, marks, rows, labels, rows, plan, sizeof plan).count;
+    plan_length = hub_write_plan_run(43200, 60, 0, 43200, 0, 43200, starts, rows, ends, rows, marks, rows, labels, rows, plan, sizeof plan).count;
 }
 
 static size_t depth_of(void (*call)(void))

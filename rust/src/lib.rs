@@ -20,6 +20,9 @@ pub const FLEET_TAPE_BYTES: usize = 400;
 /// The room that `reply` asks for; the longest text has 319 bytes.
 pub const REPLY_BYTES: usize = 400;
 
+/// The longest gap that a receiver can need between two windows, in ticks.
+pub const MAX_GAP: u16 = 600;
+
 /// The marks of a row: whether it may or must be heard, and by which receivers. A mark above 5 is refused, `Refusal::Mark`.
 pub mod mark {
     /// May be heard, by either receiver.
@@ -53,6 +56,7 @@ pub enum Refusal {
     Form = 11,
     Tape = 12,
     FirstTick = 13,
+    Gap = 14,
 }
 
 impl Refusal {
@@ -74,7 +78,8 @@ impl Refusal {
             10 => Refusal::Buffer,
             11 => Refusal::Form,
             12 => Refusal::Tape,
-            _ => Refusal::FirstTick,
+            13 => Refusal::FirstTick,
+            _ => Refusal::Gap,
         }
     }
 }
@@ -167,6 +172,7 @@ mod c {
     extern "C" {
         pub fn hub_plan_round(
             ticks: u16,
+            gap: u16,
             starts: *const u16,
             starts_length: usize,
             ends: *const u16,
@@ -180,6 +186,7 @@ mod c {
         ) -> HubAnswer;
         pub fn hub_plan_run(
             ticks: u16,
+            gap: u16,
             p1: u16,
             q1: u16,
             p2: u16,
@@ -197,6 +204,7 @@ mod c {
         ) -> HubAnswer;
         pub fn hub_write_plan_round(
             ticks: u16,
+            gap: u16,
             starts: *const u16,
             starts_length: usize,
             ends: *const u16,
@@ -210,6 +218,7 @@ mod c {
         ) -> HubAnswer;
         pub fn hub_write_plan_run(
             ticks: u16,
+            gap: u16,
             p1: u16,
             q1: u16,
             p2: u16,
@@ -253,12 +262,25 @@ fn answer(reported: c::HubAnswer) -> Result<usize, Refusal> {
 ///
 /// In a round a window covers the ticks from its start on, after the last tick from 0 on, up to the tick before its end; start equal to end covers every tick and overlaps
 /// every window. Both are below `ticks`, else `Window`. In a run a window covers its start to the tick before its end; the start is below the end and the end at most `ticks`.
-pub fn plan(kind: Kind, ticks: u16, starts: &[u16], ends: &[u16], marks: &[u8], labels: &mut [u8], space: &mut [u8]) -> Result<usize, Refusal> {
+///
+/// A receiver needs `gap` ticks between two different windows: in a plan no two of its rows overlap or have fewer between them, in a round on either side; windows that touch
+/// have 0. In a run no gap is counted from the last window on to the first. More than `MAX_GAP` is refused, `Gap`.
+pub fn plan(
+    kind: Kind,
+    ticks: u16,
+    gap: u16,
+    starts: &[u16],
+    ends: &[u16],
+    marks: &[u8],
+    labels: &mut [u8],
+    space: &mut [u8],
+) -> Result<usize, Refusal> {
     // SAFETY: each address comes with its slice's length, and the borrow rules keep the written slices apart from all others.
     answer(unsafe {
         match kind {
             Kind::Round => c::hub_plan_round(
                 ticks,
+                gap,
                 starts.as_ptr(),
                 starts.len(),
                 ends.as_ptr(),
@@ -272,6 +294,7 @@ pub fn plan(kind: Kind, ticks: u16, starts: &[u16], ends: &[u16], marks: &[u8], 
             ),
             Kind::Run([[p1, q1], [p2, q2]]) => c::hub_plan_run(
                 ticks,
+                gap,
                 p1,
                 q1,
                 p2,
@@ -291,14 +314,24 @@ pub fn plan(kind: Kind, ticks: u16, starts: &[u16], ends: &[u16], marks: &[u8], 
     })
 }
 
-/// Writes the plan tape of a table and labels to the front of `tape` and gives its length; a refusal leaves `tape` as it was. Labels that leave out a must row or use a
-/// receiver that a row's mark excludes are no plan, `NotPlan`.
-pub fn write_plan(kind: Kind, ticks: u16, starts: &[u16], ends: &[u16], marks: &[u8], labels: &[u8], tape: &mut [u8]) -> Result<usize, Refusal> {
+/// Writes the plan tape of a table and labels to the front of `tape` and gives its length; a refusal leaves `tape` as it was. Labels that leave out a must row, use a receiver
+/// that a row's mark excludes or break the gap are no plan, `NotPlan`.
+pub fn write_plan(
+    kind: Kind,
+    ticks: u16,
+    gap: u16,
+    starts: &[u16],
+    ends: &[u16],
+    marks: &[u8],
+    labels: &[u8],
+    tape: &mut [u8],
+) -> Result<usize, Refusal> {
     // SAFETY: as in `plan`.
     answer(unsafe {
         match kind {
             Kind::Round => c::hub_write_plan_round(
                 ticks,
+                gap,
                 starts.as_ptr(),
                 starts.len(),
                 ends.as_ptr(),
@@ -312,6 +345,7 @@ pub fn write_plan(kind: Kind, ticks: u16, starts: &[u16], ends: &[u16], marks: &
             ),
             Kind::Run([[p1, q1], [p2, q2]]) => c::hub_write_plan_run(
                 ticks,
+                gap,
                 p1,
                 q1,
                 p2,
@@ -362,15 +396,16 @@ pub fn read_fleet(tape: &[u8], starts: &mut [u16], ends: &mut [u16], marks: &mut
     })
 }
 
-/// Writes to the front of `out` what `hubplan` prints for a fleet tape, and gives that text; nothing where `out` is shorter than `REPLY_BYTES`.
+/// Writes to the front of `out` what `hubplan` prints for a fleet tape, with a gap of 0, and gives that text; nothing where `out` is shorter than `REPLY_BYTES`.
 pub fn reply<'a>(tape: &[u8], out: &'a mut [u8], space: &mut [u8]) -> &'a [u8] {
     // SAFETY: as in `plan`.
     let length = unsafe { c::hub_reply(tape.as_ptr(), tape.len(), out.as_mut_ptr(), out.len(), space.as_mut_ptr(), space.len()) };
     &out[..length]
 }
 
-/// Starts a player on a plan tape, at the tick `first`. Taken are exactly the tapes that `write_plan` can write for some table and labels (of a run, with hours 0 to
-/// ticks), else `Tape`; then `FirstTick` where `first` is not below the tape's ticks. The library gives a finished player with a refusal, which is `Player::FINISHED`.
+/// Starts a player on a plan tape, at the tick `first`. Taken are exactly the tapes that `write_plan` can write for some table and labels with a gap of 0 (of a run, with
+/// hours 0 to ticks), so all that it writes with any gap, else `Tape`; then `FirstTick` where `first` is not below the tape's ticks. The library gives a finished player with a
+/// refusal, which is `Player::FINISHED`.
 pub fn start(tape: &[u8], first: u16) -> Result<Player, Refusal> {
     // SAFETY: the address comes with its slice's length, and nothing is written.
     let started = unsafe { c::hub_player_start(tape.as_ptr(), tape.len(), first) };

@@ -1,6 +1,6 @@
 //! Tables of windows from fixed pseudo-random sequences, for the benchmark and the tests.
 
-use crate::Kind;
+use crate::{Kind, Refusal};
 
 /// SplitMix64: the same numbers on every machine.
 pub struct Sequence(u64);
@@ -28,10 +28,14 @@ impl Sequence {
     }
 }
 
+/// `crate::plan`, or its port.
+pub type Planner = fn(Kind, u16, u16, &[u16], &[u16], &[u8], &mut [u8], &mut [u8]) -> Result<usize, Refusal>;
+
 #[derive(Clone, Debug, PartialEq)]
 pub struct Table {
     pub kind: Kind,
     pub ticks: u16,
+    pub gap: u16,
     pub starts: Vec<u16>,
     pub ends: Vec<u16>,
     pub marks: Vec<u8>,
@@ -40,18 +44,32 @@ pub struct Table {
 pub const DAY: u32 = 43_200;
 
 impl Table {
+    /// No rows, and a gap of 0.
     pub fn empty(kind: Kind, ticks: u16) -> Table {
         Table {
             kind,
             ticks,
+            gap: 0,
             starts: vec![],
             ends: vec![],
             marks: vec![],
         }
     }
 
+    pub fn with_gap(self, gap: u16) -> Table {
+        Table { gap, ..self }
+    }
+
     pub fn rows(&self) -> usize {
         self.starts.len()
+    }
+
+    pub fn plan(&self, planner: Planner, labels: &mut [u8], space: &mut [u8]) -> Result<usize, Refusal> {
+        planner(self.kind, self.ticks, self.gap, &self.starts, &self.ends, &self.marks, labels, space)
+    }
+
+    pub fn write_plan(&self, labels: &[u8], tape: &mut [u8]) -> Result<usize, Refusal> {
+        crate::write_plan(self.kind, self.ticks, self.gap, &self.starts, &self.ends, &self.marks, labels, tape)
     }
 
     /// A row of a round that starts at a tick, which may be past the end of the day, and is so many ticks long, up to R.
@@ -209,5 +227,8 @@ pub fn benchmark_tables() -> Vec<(&'static str, Table)> {
         ("all must, no plan", all_must(64, 7)),
         ("32 windows and 32 long arcs", long_arcs(8)),
         ("1 to 2 deep, marks 0 to 5 in turn", all_marks(64, 51)),
+        ("1 to 2 deep, gap 60", deep(64, 1, 2, 1).with_gap(60)),
+        ("run with uneven hours, gap 60", uneven_run(64, 6).with_gap(60)),
+        ("32 windows and 32 long arcs, gap 60", long_arcs(8).with_gap(60)),
     ]
 }

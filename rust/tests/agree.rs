@@ -3,10 +3,8 @@
 mod papers;
 mod player;
 
-use hubplan::tables::{benchmark_tables, long_arcs, Sequence, Table};
-use hubplan::{first_free, mark, port, Kind, Refusal, FLEET_TAPE_BYTES, PLAN_TAPE_BYTES, REPLY_BYTES, SPACE_BYTES};
-
-type Planner = fn(Kind, u16, &[u16], &[u16], &[u8], &mut [u8], &mut [u8]) -> Result<usize, Refusal>;
+use hubplan::tables::{benchmark_tables, long_arcs, Planner, Sequence, Table};
+use hubplan::{first_free, mark, port, Kind, Player, Refusal, FLEET_TAPE_BYTES, MAX_GAP, PLAN_TAPE_BYTES, REPLY_BYTES, SPACE_BYTES};
 
 fn numbers(answer: Result<usize, Refusal>) -> (u8, usize) {
     match answer {
@@ -20,15 +18,7 @@ fn compare_plan(planner: Planner, table: &Table, labels: usize, space: usize, ri
     let mut given_labels: Vec<u8> = (0..labels).map(|i| 0xa0 + i as u8 % 7).collect();
     let mut given_space: Vec<u8> = (0..space).map(|i| 1 + (i % 251) as u8).collect();
     let mut right_space = given_space.clone();
-    let answer = planner(
-        table.kind,
-        table.ticks,
-        &table.starts,
-        &table.ends,
-        &table.marks,
-        &mut given_labels,
-        &mut given_space,
-    );
+    let answer = table.plan(planner, &mut given_labels, &mut given_space);
     assert_eq!(numbers(answer), (right.0, right.1), "{table:?}");
     assert_eq!(given_labels, right.2, "{table:?}");
     if right.0 == 0 || right.0 == 8 {
@@ -41,7 +31,7 @@ fn compare_plan(planner: Planner, table: &Table, labels: usize, space: usize, ri
 /// Writes a tape into the buffer and compares answer and buffer with what the rules ask; gives the refusal's number.
 fn compare_written(rules: &papers::Rules, table: &Table, labels: &[u8], mut buffer: Vec<u8>) -> u8 {
     let right = papers::written(rules, table, labels, &buffer);
-    let answer = hubplan::write_plan(table.kind, table.ticks, &table.starts, &table.ends, &table.marks, labels, &mut buffer);
+    let answer = table.write_plan(labels, &mut buffer);
     assert_eq!((numbers(answer), buffer), ((right.0, right.1), right.2), "{table:?} {labels:?}");
     right.0
 }
@@ -69,7 +59,13 @@ struct OneIn {
     all_day: u32,
 }
 
-/// A table that passes its checks, of so many rows, with windows up to `longest` ticks and those that send all day.
+/// No gap, a short one, or one from 0 to beyond R.
+fn random_gap(sequence: &mut Sequence, ticks: u32) -> u16 {
+    let most = [0, 0, 3, ticks / 8 + 1, ticks + 3][sequence.within(0, 4) as usize];
+    sequence.within(0, most.min(MAX_GAP as u32)) as u16
+}
+
+/// A table that passes its checks, of so many rows, with windows up to `longest` ticks and those that send all day, and with no gap.
 fn random_table(sequence: &mut Sequence, rows: usize, ticks: u32, longest: u32, one_in: OneIn) -> Table {
     let kind = if sequence.one_in(2) {
         Kind::Round
@@ -114,7 +110,8 @@ fn random_setting(sequence: &mut Sequence, rows: usize) -> Table {
         only: [1, 2, 4, 1_000][sequence.within(0, 3) as usize],
         all_day: [2, 12, 1_000, 1_000][sequence.within(0, 3) as usize],
     };
-    random_table(sequence, rows, ticks, longest, one_in)
+    let gap = random_gap(sequence, ticks);
+    random_table(sequence, rows, ticks, longest, one_in).with_gap(gap)
 }
 
 /// Whether row i of a table that passes its checks sends all day.
@@ -148,10 +145,21 @@ fn decides(table: &Table, i: usize, right: &(u8, usize, Vec<u8>)) -> bool {
     other != *table && right_plan(&other, table.rows(), SPACE_BYTES) != *right
 }
 
+/// Whether the gap decides what is right: with no gap the answer or the labels are others.
+fn gap_decides(table: &Table, right: &(u8, usize, Vec<u8>)) -> bool {
+    right_plan(&table.clone().with_gap(0), table.rows(), SPACE_BYTES) != *right
+}
+
 /// Counts the cases that were met.
 fn count(times: &mut [u32; 2], met: [bool; 2]) {
     times[0] += u32::from(met[0]);
     times[1] += u32::from(met[1]);
+}
+
+/// Counts a case that was met, in rounds and in runs.
+fn count_kind(times: &mut [u32; 2], table: &Table, met: bool) {
+    let round = table.kind == Kind::Round;
+    count(times, [met && round, met && !round]);
 }
 
 /// Windows and marks as a table.
@@ -198,23 +206,55 @@ fn up_to_8_rows_against_all_labels() {
     assert!(deciding[2..].iter().all(|&times| times > 300), "marks that decide: {deciding:?}");
 }
 
+/// Rounds and runs of up to 30 ticks with each gap up to beyond R, against all labels; and how many of them tell the right rules from those without a gap and those that
+/// misread it.
+#[test]
+fn gaps_from_0_to_beyond_the_round() {
+    let mut sequence = Sequence::new(150);
+    let one_in = OneIn {
+        must: 20,
+        only: 4,
+        all_day: 40,
+    };
+    let others = [&[("no gap", [true, true], papers::former::BEFORE_4)], &papers::misread::ALL[..]].concat();
+    let mut told = vec![[0; 2]; others.len()];
+    for _ in 0..600 {
+        let (rows, ticks) = (sequence.within(1, 6) as usize, sequence.within(2, 30));
+        let longest = sequence.within(1, ticks / 3 + 1);
+        let table = random_table(&mut sequence, rows, ticks, longest, one_in);
+        for gap in 0..=table.ticks + 2 {
+            let table = table.clone().with_gap(gap);
+            let right = right_plan(&table, rows, SPACE_BYTES);
+            let labels = (right.0 == 0).then(|| right.2.clone());
+            assert_eq!(papers::plan_by_trying(&papers::RULES, &table), labels, "{table:?}");
+            compare_plan(hubplan::plan, &table, rows, SPACE_BYTES, &right);
+            compare_plan(port::plan, &table, rows, SPACE_BYTES, &right);
+            for ((_, _, rules), times) in others.iter().zip(&mut told) {
+                count_kind(times, &table, papers::plan_by_trying(rules, &table) != labels);
+            }
+        }
+    }
+    for ((name, kinds, _), times) in others.iter().zip(told) {
+        println!("{name}: another answer for {} rounds and {} runs", times[0], times[1]);
+        for (differs, times) in kinds.iter().zip(times) {
+            assert!(if *differs { times > 150 } else { times == 0 }, "{name}: {times}");
+        }
+    }
+}
+
 #[test]
 fn larger_tables_against_the_search() {
     let mut sequence = Sequence::new(200);
     let mut none = 0;
-    let (mut deciding, mut all_day, mut all_day_deciding) = ([0; 6], 0, [0; 2]);
+    let (mut deciding, mut all_day, mut all_day_deciding, mut gaps_deciding) = ([0; 6], 0, [0; 2], [0; 2]);
     for turn in 0..3_000 {
         let rows = if turn % 4 == 0 { 64 } else { sequence.within(9, 64) as usize };
         let table = random_setting(&mut sequence, rows);
         let right = right_plan(&table, rows, SPACE_BYTES);
         if right.0 == 0 {
-            assert!(papers::is_plan(
-                &papers::RULES,
-                &table,
-                &papers::overlaps(&papers::RULES, &table),
-                &right.2
-            ));
+            assert!(papers::is_plan(&papers::RULES, &table, &right.2));
         }
+        count_kind(&mut gaps_deciding, &table, gap_decides(&table, &right));
         none += u32::from(compare_plan(hubplan::plan, &table, rows, SPACE_BYTES, &right) == 8);
         compare_plan(port::plan, &table, rows, SPACE_BYTES, &right);
         // the first row of each mark, as a search of so many rows takes its time
@@ -234,6 +274,8 @@ fn larger_tables_against_the_search() {
         "{all_day} tables with rows that send all day, of which the first decides: {all_day_deciding:?}"
     );
     assert!(deciding[2..].iter().all(|&times| times > 100), "marks that decide: {deciding:?}");
+    println!("rounds and runs of 9 to 64 rows that the gap decides: {gaps_deciding:?}");
+    assert!(gaps_deciding.iter().all(|&times| times > 200), "{gaps_deciding:?}");
 }
 
 #[test]
@@ -257,12 +299,9 @@ fn the_old_planner_gives_plans() {
         let table = random_setting(&mut sequence, rows);
         let right = right_plan(&table, rows, SPACE_BYTES);
         let mut labels = vec![7; rows];
-        match first_free::plan(table.kind, table.ticks, &table.starts, &table.ends, &table.marks, &mut labels) {
+        match first_free::plan(table.kind, table.ticks, table.gap, &table.starts, &table.ends, &table.marks, &mut labels) {
             Ok(count) => {
-                assert!(
-                    papers::is_plan(&papers::RULES, &table, &papers::overlaps(&papers::RULES, &table), &labels),
-                    "{table:?} {labels:?}"
-                );
+                assert!(papers::is_plan(&papers::RULES, &table, &labels), "{table:?} {labels:?}");
                 assert!(count == papers::heard(&labels) && count <= right.1, "{table:?} {labels:?}");
                 fewer += u32::from(count < right.1);
             }
@@ -279,7 +318,7 @@ fn the_old_planner_gives_plans() {
 fn damage(sequence: &mut Sequence, table: &mut Table, labels: &mut usize, space: &mut usize) {
     for _ in 0..sequence.within(1, 3) {
         let row = |sequence: &mut Sequence, table: &Table| sequence.within(0, table.rows().max(1) as u32 - 1) as usize;
-        match sequence.within(0, 13) {
+        match sequence.within(0, 15) {
             0 => *labels = labels.saturating_sub(1),
             1 => table.ends.push(1),
             2 => table.marks.push(0),
@@ -316,6 +355,7 @@ fn damage(sequence: &mut Sequence, table: &mut Table, labels: &mut usize, space:
                 let i = sequence.within(0, table.marks.len() as u32 - 1) as usize;
                 table.marks[i] = if sequence.one_in(2) { 6 } else { sequence.within(6, 255) as u8 };
             }
+            13 | 14 => table.gap = if sequence.one_in(2) { 601 } else { sequence.within(601, 65_535) as u16 },
             _ => {}
         }
     }
@@ -324,7 +364,7 @@ fn damage(sequence: &mut Sequence, table: &mut Table, labels: &mut usize, space:
 #[test]
 fn damaged_tables_are_refused_by_number() {
     let mut sequence = Sequence::new(400);
-    let mut seen = [0; 12];
+    let mut seen = [0; 15];
     for _ in 0..30_000 {
         let rows = sequence.within(0, 20) as usize;
         let mut table = random_setting(&mut sequence, rows);
@@ -334,7 +374,7 @@ fn damaged_tables_are_refused_by_number() {
         seen[compare_plan(hubplan::plan, &table, labels, space, &right) as usize] += 1;
         compare_plan(port::plan, &table, labels, space, &right);
     }
-    assert!(seen[..9].iter().all(|&times| times > 200), "{seen:?}");
+    assert!(seen[..9].iter().all(|&times| times > 200) && seen[14] > 200, "{seen:?}");
 }
 
 #[test]
@@ -362,16 +402,15 @@ fn edges_of_paper_01() {
     let table = of(Kind::Round, 100, &[(10, 30), (20, 40), (25, 50), (90, 10)]);
     assert_eq!(right_plan(&table, 4, SPACE_BYTES), (0, 3, vec![1, 2, 0, 1]));
     assert_eq!(plan(&table, 4, SPACE_BYTES), 0);
-    let write = |labels: &[u8], tape: &mut [u8]| hubplan::write_plan(table.kind, table.ticks, &table.starts, &table.ends, &table.marks, labels, tape);
     let mut tape = [0xee; 26];
-    assert_eq!(write(&[1, 2, 0, 1], &mut tape), Ok(26));
+    assert_eq!(table.write_plan(&[1, 2, 0, 1], &mut tape), Ok(26));
     let right = [
         0x10, 0x00, 0x64, 0x20, 0x01, 0x30, 0x00, 0x00, 0x0a, 0x00, 0x1e, 0x30, 0x03, 0x00, 0x5a, 0x00, 0x0a, 0x20, 0x02, 0x30, 0x01, 0x00, 0x14,
         0x00, 0x28, 0x7f,
     ];
     assert_eq!(tape, right);
-    assert_eq!(write(&[1, 2, 0, 1], &mut tape[..25]), Err(Refusal::Buffer));
-    assert_eq!(write(&[1, 2, 3, 1], &mut tape), Err(Refusal::NotPlan));
+    assert_eq!(table.write_plan(&[1, 2, 0, 1], &mut tape[..25]), Err(Refusal::Buffer));
+    assert_eq!(table.write_plan(&[1, 2, 3, 1], &mut tape), Err(Refusal::NotPlan));
 }
 
 #[test]
@@ -409,7 +448,20 @@ fn marks_by_hand() {
     }
 }
 
-/// Rows in a round or run of so many ticks, and the labels worked out by hand, or the refusal. After a refusal labels, working space (8 aside) and tape are as they were.
+/// The labels of a table worked out by hand, or the refusal: planned and written. After a refusal labels, working space (8 aside) and tape are as they were.
+fn by_hand(table: &Table, labels: Result<&[u8], u8>) {
+    let rows = table.rows();
+    let right = right_plan(table, rows, SPACE_BYTES);
+    assert_eq!(if right.0 == 0 { Ok(&right.2[..]) } else { Err(right.0) }, labels, "{table:?}");
+    compare_plan(hubplan::plan, table, rows, SPACE_BYTES, &right);
+    compare_plan(port::plan, table, rows, SPACE_BYTES, &right);
+    // where there is no plan labels 1 for all are none
+    let offered = labels.map_or(vec![1; rows], <[u8]>::to_vec);
+    let refusal = compare_written(&papers::RULES, table, &offered, vec![0x55; PLAN_TAPE_BYTES]);
+    assert_eq!(refusal, if right.0 == 8 { 9 } else { right.0 }, "{table:?}");
+}
+
+/// Rows in a round or run of so many ticks, and the labels or the refusal.
 #[test]
 fn all_day_by_hand() {
     type Case<'a> = (Kind, u16, &'a [(u16, u16, u8)], Result<&'a [u8], u8>);
@@ -445,15 +497,7 @@ fn all_day_by_hand() {
         (round, 10, &[(3, 3, 6)], Err(7)),
     ];
     for (kind, ticks, rows, labels) in cases {
-        let table = table_of(kind, ticks, rows);
-        let right = right_plan(&table, rows.len(), SPACE_BYTES);
-        assert_eq!(if right.0 == 0 { Ok(&right.2[..]) } else { Err(right.0) }, labels, "{table:?}");
-        compare_plan(hubplan::plan, &table, rows.len(), SPACE_BYTES, &right);
-        compare_plan(port::plan, &table, rows.len(), SPACE_BYTES, &right);
-        // where there is no plan labels 1 for all are none
-        let offered = labels.map_or(vec![1; rows.len()], <[u8]>::to_vec);
-        let refusal = compare_written(&papers::RULES, &table, &offered, vec![0x55; PLAN_TAPE_BYTES]);
-        assert_eq!(refusal, if right.0 == 8 { 9 } else { right.0 }, "{table:?}");
+        by_hand(&table_of(kind, ticks, rows), labels);
     }
 }
 
@@ -466,21 +510,117 @@ fn refusal_7_begins_at_mark_6() {
         assert_eq!(right.0, if mark < 6 { 6 } else { 7 });
         compare_plan(hubplan::plan, &table, 2, SPACE_BYTES, &right);
         compare_plan(port::plan, &table, 2, SPACE_BYTES, &right);
-        let answer = hubplan::write_plan(table.kind, table.ticks, &table.starts, &table.ends, &table.marks, &[1, 2], &mut []);
-        assert_eq!(numbers(answer), (right.0, 0));
+        assert_eq!(numbers(table.write_plan(&[1, 2], &mut [])), (right.0, 0));
     }
 }
 
-/// Rules before a request: they know rows that do not send all day, with marks up to the highest.
+/// Rows in a round or run of so many ticks with a gap, and the labels or the refusal.
+#[test]
+fn gaps_by_hand() {
+    type Case<'a> = (Kind, u16, u16, &'a [(u16, u16, u8)], Result<&'a [u8], u8>);
+    let (round, run) = (Kind::Round, Kind::Run([[0, 10]; 2]));
+    let session: &[(u16, u16, u8)] = &[(10, 30, 0), (20, 40, 0), (25, 50, 0), (90, 10, 0)];
+    let cases: [Case; 48] = [
+        // "A receiver needs g ticks between two different windows": those that touch have none
+        (round, 10, 0, &[(8, 2, 0), (2, 8, 0)], Ok(&[1, 1])),
+        (round, 10, 1, &[(8, 2, 0), (2, 8, 0)], Ok(&[1, 2])),
+        (round, 10, 1, &[(8, 2, 3), (2, 8, 3)], Err(8)),
+        (run, 10, 0, &[(5, 10, 0), (0, 5, 0)], Ok(&[1, 1])),
+        (run, 10, 1, &[(5, 10, 0), (0, 5, 0)], Ok(&[1, 2])),
+        (run, 10, 1, &[(5, 10, 5), (0, 5, 5)], Err(8)),
+        (round, 2, 0, &[(0, 1, 0), (1, 0, 0)], Ok(&[1, 1])),
+        (round, 2, 1, &[(0, 1, 0), (1, 0, 0)], Ok(&[1, 2])),
+        // "the gaps on both sides must do": from 3 to 5 there are 2 ticks, from 9 on to 0 one and from 8 on to 0 two
+        (round, 10, 1, &[(0, 3, 0), (5, 9, 0)], Ok(&[1, 1])),
+        (round, 10, 2, &[(0, 3, 0), (5, 9, 0)], Ok(&[1, 2])),
+        (round, 10, 2, &[(0, 3, 3), (5, 9, 3)], Err(8)),
+        (round, 10, 2, &[(5, 9, 3), (0, 3, 3)], Err(8)),
+        (round, 10, 2, &[(0, 3, 0), (5, 8, 0)], Ok(&[1, 1])),
+        (round, 10, 3, &[(0, 3, 0), (5, 8, 0)], Ok(&[1, 2])),
+        (round, 10, 2, &[(0, 4, 3), (5, 8, 3)], Err(8)),
+        (round, 10, 2, &[(8, 1, 0), (3, 6, 0)], Ok(&[1, 1])),
+        (round, 10, 2, &[(8, 1, 3), (3, 7, 3)], Err(8)),
+        (round, 10, 2, &[(8, 2, 3), (3, 6, 3)], Err(8)),
+        // in a run there is one side: from the last window nothing goes on to the first
+        (run, 10, 2, &[(0, 3, 0), (5, 9, 0)], Ok(&[1, 1])),
+        (run, 10, 3, &[(0, 3, 0), (5, 9, 0)], Ok(&[1, 2])),
+        (run, 10, 6, &[(8, 10, 3), (0, 2, 3)], Ok(&[1, 1])),
+        (run, 10, 7, &[(8, 10, 3), (0, 2, 3)], Err(8)),
+        (round, 10, 1, &[(8, 0, 3), (0, 2, 3)], Err(8)),
+        // g of R or more
+        (round, 10, 9, &[(0, 1, 0), (5, 6, 0)], Ok(&[1, 2])),
+        (round, 10, 10, &[(0, 1, 0), (5, 6, 0)], Ok(&[1, 2])),
+        (round, 10, 600, &[(0, 1, 0), (5, 6, 0), (7, 8, 0)], Ok(&[1, 2, 0])),
+        (round, 10, 10, &[(0, 1, 1), (5, 6, 1), (7, 8, 1)], Err(8)),
+        (run, 10, 10, &[(0, 1, 0), (5, 6, 0)], Ok(&[1, 2])),
+        (run, 10, 8, &[(0, 1, 0), (9, 10, 0)], Ok(&[1, 1])),
+        (run, 10, 600, &[(0, 1, 0), (9, 10, 0), (4, 5, 0)], Ok(&[1, 2, 0])),
+        // "A window is never too close to itself": the rest of the round is shorter than g; equal windows in two rows are two windows
+        (round, 10, 3, &[(3, 1, 1)], Ok(&[1])),
+        (round, 10, 600, &[(3, 1, 1), (3, 1, 1)], Ok(&[1, 2])),
+        (round, 10, 1, &[(4, 5, 0), (4, 5, 0), (4, 5, 0)], Ok(&[1, 2, 0])),
+        (round, 10, 600, &[(3, 3, 5)], Ok(&[2])),
+        (round, 10, 600, &[(3, 3, 0), (7, 7, 0), (0, 0, 0)], Ok(&[1, 2, 0])),
+        (run, 10, 600, &[(0, 10, 3)], Ok(&[1])),
+        // nothing is owed to the hours, nor between the receivers
+        (Kind::Run([[2, 8], [0, 10]]), 10, 600, &[(2, 8, 3)], Ok(&[1])),
+        (run, 10, 600, &[(0, 5, 3), (5, 10, 5)], Ok(&[1, 2])),
+        (round, 10, 600, &[(0, 5, 3), (5, 0, 5)], Ok(&[1, 2])),
+        // the session of paper 01: row 3 has no tick before row 0, 10 before row 1 and 15 before row 2
+        (round, 100, 0, session, Ok(&[1, 2, 0, 1])),
+        (round, 100, 10, session, Ok(&[1, 2, 0, 2])),
+        (round, 100, 15, session, Ok(&[1, 0, 2, 2])),
+        (round, 100, 16, session, Ok(&[1, 2, 0, 0])),
+        // the longest gap, on either side
+        (round, 43_200, 600, &[(0, 21_000, 0), (21_600, 42_600, 0)], Ok(&[1, 1])),
+        (round, 43_200, 600, &[(0, 21_001, 0), (21_600, 42_600, 0)], Ok(&[1, 2])),
+        (round, 43_200, 600, &[(0, 21_000, 0), (21_600, 42_601, 0)], Ok(&[1, 2])),
+        (Kind::Run([[0, 43_200]; 2]), 43_200, 600, &[(0, 1, 0), (601, 43_200, 0)], Ok(&[1, 1])),
+        (Kind::Run([[0, 43_200]; 2]), 43_200, 600, &[(0, 1, 0), (600, 43_200, 0)], Ok(&[1, 2])),
+    ];
+    for (kind, ticks, gap, rows, labels) in cases {
+        by_hand(&table_of(kind, ticks, rows).with_gap(gap), labels);
+    }
+}
+
+/// Wrong in R, hours, gap, window and mark: mended one by one, planner and writer refuse by 4, 5 (in a run), 14, 6 and 7.
+#[test]
+fn refusal_14_comes_after_5_and_before_the_rows() {
+    for gap in [0, 600, 601, 65_535] {
+        for kind in [Kind::Round, Kind::Run([[1, 0], [0, 10]])] {
+            let mut table = table_of(kind, 1, &[(3, 11, 6)]).with_gap(gap);
+            by_hand(&table, Err(4));
+            table.ticks = 10;
+            if kind != Kind::Round {
+                by_hand(&table, Err(5));
+                table.kind = Kind::Run([[0, 10]; 2]);
+            }
+            if gap > 600 {
+                by_hand(&table, Err(14));
+                let right = right_plan(&table, 1, SPACE_BYTES - 1);
+                assert_eq!(compare_plan(hubplan::plan, &table, 1, SPACE_BYTES - 1, &right), 3);
+                table.gap = 600;
+            }
+            by_hand(&table, Err(6));
+            table.ends[0] = 9;
+            by_hand(&table, Err(7));
+            table.marks[0] = 5;
+            by_hand(&table, Ok(&[2]));
+        }
+    }
+}
+
+/// Rules before a request, which know no gap: whether they know rows that send all day, and the highest mark that they know.
 struct Former {
     rules: papers::Rules,
+    all_day: bool,
     highest_mark: u8,
 }
 
 /// What the former rules refuse of a table that passes its checks now: the first row that sends all day (6) or has a mark that they do not know (7); 0 where they know all rows.
 fn unknown(former: &Former, table: &Table) -> u8 {
     let of_row = |i: usize| {
-        if is_all_day(table, i) {
+        if is_all_day(table, i) && !former.all_day {
             6
         } else if table.marks[i] > former.highest_mark {
             7
@@ -491,11 +631,11 @@ fn unknown(former: &Former, table: &Table) -> u8 {
     (0..table.rows()).map(of_row).find(|&refusal| refusal > 0).unwrap_or(0)
 }
 
-/// A table that the former rules know: rows that send all day have a tick less, and marks that they do not know become those for either receiver.
+/// A table that the former rules know: it has no gap; where they do not know them, rows that send all day have a tick less and marks become those for either receiver.
 fn as_known(former: &Former, table: &Table) -> Table {
-    let mut known = table.clone();
+    let mut known = table.clone().with_gap(0);
     for i in 0..table.rows() {
-        if is_all_day(table, i) {
+        if is_all_day(table, i) && !former.all_day {
             set_length(&mut known, i, table.ticks - 1);
         }
         if table.marks[i] > former.highest_mark {
@@ -512,7 +652,13 @@ fn compare_with_former(sequence: &mut Sequence, former: &Former, table: &Table) 
     let plan = papers::planned(&former.rules, table, &before, SPACE_BYTES);
     compare_plan(hubplan::plan, table, rows, SPACE_BYTES, &plan);
     compare_plan(port::plan, table, rows, SPACE_BYTES, &plan);
-    assert_eq!(right_plan(table, rows, SPACE_BYTES), plan, "{table:?}");
+    if rows <= 7 {
+        assert_eq!(
+            papers::plan_by_trying(&former.rules, table),
+            (plan.0 == 0).then(|| plan.2.clone()),
+            "{table:?}"
+        );
+    }
     // and what is a plan at all stays, the tape with it
     let labels: Vec<u8> = plan
         .2
@@ -547,7 +693,12 @@ fn keep_their_plans(former: &Former, seed: u64) -> [[u32; 13]; 3] {
 #[test]
 fn tables_with_only_0_and_1_keep_their_plans() {
     let rules = papers::former::BEFORE_2;
-    let met = keep_their_plans(&Former { rules, highest_mark: 1 }, 450);
+    let former = Former {
+        rules,
+        all_day: false,
+        highest_mark: 1,
+    };
+    let met = keep_their_plans(&former, 450);
     let [refused, planned, written] = met;
     assert!(refused[0] > 200 && refused[6] > 200 && refused[7] > 700, "{met:?}");
     assert!(planned[0] > 1_000 && planned[8] > 200 && written[0] > 300 && written[9] > 300, "{met:?}");
@@ -557,9 +708,27 @@ fn tables_with_only_0_and_1_keep_their_plans() {
 #[test]
 fn tables_without_all_day_rows_keep_their_plans() {
     let rules = papers::former::BEFORE_3;
-    let met = keep_their_plans(&Former { rules, highest_mark: 5 }, 470);
+    let former = Former {
+        rules,
+        all_day: false,
+        highest_mark: 5,
+    };
+    let met = keep_their_plans(&former, 470);
     let [refused, planned, written] = met;
     assert!(refused[0] > 1_000 && refused[6] > 300, "{met:?}");
+    assert!(planned[0] > 1_000 && planned[8] > 200 && written[0] > 300 && written[9] > 300, "{met:?}");
+}
+
+/// "g of 0 is the former behaviour", with marks 0 to 5 and rows that send all day: compared with the rules before request 4, by which two windows clash where they overlap.
+#[test]
+fn a_gap_of_0_is_the_former_behaviour() {
+    let former = Former {
+        rules: papers::former::BEFORE_4,
+        all_day: true,
+        highest_mark: 5,
+    };
+    let met = keep_their_plans(&former, 480);
+    let [_, planned, written] = met;
     assert!(planned[0] > 1_000 && planned[8] > 200 && written[0] > 300 && written[9] > 300, "{met:?}");
 }
 
@@ -582,7 +751,7 @@ fn labels_on_the_wrong_receiver_are_no_plan() {
             table.marks[i] = mark;
             let before = vec![0x55; tape.len()];
             let mut buffer = before.clone();
-            let answer = hubplan::write_plan(table.kind, table.ticks, &table.starts, &table.ends, &table.marks, &labels, &mut buffer);
+            let answer = table.write_plan(&labels, &mut buffer);
             let right = if labels[i] == wrong_receiver || (must && labels[i] == 0) {
                 (Err(Refusal::NotPlan), &before)
             } else {
@@ -595,17 +764,40 @@ fn labels_on_the_wrong_receiver_are_no_plan() {
     assert!(seen[2..].iter().flatten().all(|&times| times > 150), "by mark and label: {seen:?}");
 }
 
+/// The best plan where there is no gap, offered with the gap: "Labels that break the gap are no plan". A tape that is written with a gap or without one is taken: "plan tapes
+/// are still read with g of 0".
+#[test]
+fn labels_that_break_the_gap_are_no_plan() {
+    let mut sequence = Sequence::new(490);
+    let mut seen = [0; 10];
+    for _ in 0..3_000 {
+        let rows = sequence.within(1, 20) as usize;
+        let table = random_setting(&mut sequence, rows);
+        let without = table.clone().with_gap(0);
+        let (0, _, labels) = right_plan(&without, rows, SPACE_BYTES) else {
+            continue;
+        };
+        let tape = papers::plan_tape(&table, &labels);
+        let refusal = compare_written(&papers::RULES, &table, &labels, vec![0x55; tape.len()]);
+        assert!(table.gap > 0 || refusal == 0, "{table:?} {labels:?}");
+        assert_eq!(compare_written(&papers::RULES, &without, &labels, vec![0x55; tape.len()]), 0);
+        assert_eq!(hubplan::start(&tape, 0), Ok(Player { tick: 0 }), "{table:?} {labels:?}");
+        seen[refusal as usize] += u32::from(table.gap > 0);
+    }
+    assert!(seen[0] > 300 && seen[9] > 300, "with a gap: {seen:?}");
+}
+
 #[test]
 fn plan_tapes() {
     let mut sequence = Sequence::new(500);
-    let (mut seen, mut all_day) = ([0; 12], 0);
+    let (mut seen, mut all_day) = ([0; 15], 0);
     for turn in 0..20_000 {
         let rows = if turn % 10 == 0 { 64 } else { sequence.within(0, 12) as usize };
         let mut table = random_setting(&mut sequence, rows);
         let mut labels: Vec<u8> = (0..rows).map(|_| sequence.within(0, 2) as u8).collect();
         if !sequence.one_in(4) {
             let mut space = vec![0; SPACE_BYTES];
-            let _ = port::plan(table.kind, table.ticks, &table.starts, &table.ends, &table.marks, &mut labels, &mut space);
+            let _ = table.plan(port::plan, &mut labels, &mut space);
         }
         if rows > 0 && sequence.one_in(6) {
             labels[sequence.within(0, rows as u32 - 1) as usize] = sequence.within(0, 4) as u8;
@@ -625,7 +817,7 @@ fn plan_tapes() {
         seen[refusal as usize] += 1;
         all_day += u32::from(refusal == 0 && (0..rows).any(|i| labels[i] > 0 && is_all_day(&table, i)));
     }
-    assert!([0, 1, 2, 4, 5, 6, 7, 9, 10].iter().all(|&number| seen[number] > 100), "{seen:?}");
+    assert!([0, 1, 2, 4, 5, 6, 7, 9, 10, 14].iter().all(|&number| seen[number] > 100), "{seen:?}");
     assert!(all_day > 300, "{all_day} tapes with a row that sends all day");
 }
 

@@ -1,7 +1,7 @@
 //! The benchmark: `cargo run --release --bin benchmark` prints every table of docs/BENCHMARKS.md. Times are processor time of this thread, or of the child process for
 //! glpsol, so that other work on the machine counts as little as possible.
 
-use hubplan::tables::{benchmark_tables, deep, in_turn, Table, DAY};
+use hubplan::tables::{benchmark_tables, deep, in_turn, Planner, Table, DAY};
 use hubplan::{first_free, player_port, port, Kind, Player, Refusal, Stepped, PLAN_TAPE_BYTES, SPACE_BYTES};
 use std::fmt::Write as _;
 use std::hint::black_box;
@@ -97,26 +97,20 @@ fn measure(calls: &mut [&mut dyn FnMut()], rounds: usize) -> Vec<Spread> {
     times.into_iter().map(spread).collect()
 }
 
-type Planner = fn(Kind, u16, &[u16], &[u16], &[u8], &mut [u8], &mut [u8]) -> Result<usize, Refusal>;
-
-fn plan_with(planner: Planner, table: &Table, labels: &mut [u8], space: &mut [u8]) -> Result<usize, Refusal> {
-    planner(table.kind, table.ticks, &table.starts, &table.ends, &table.marks, labels, space)
-}
-
 /// The planner's and the port's time for a table; they must agree.
 fn planners(table: &Table, rounds: usize) -> (Spread, Spread, Result<usize, Refusal>) {
     let mut labels = vec![0; table.rows()];
     let mut port_labels = labels.clone();
     let (mut space, mut port_space) = (vec![0; SPACE_BYTES], vec![0; SPACE_BYTES]);
     let mut proved_call = || {
-        let _ = black_box(plan_with(hubplan::plan, black_box(table), &mut labels, &mut space));
+        let _ = black_box(black_box(table).plan(hubplan::plan, &mut labels, &mut space));
     };
     let mut port_call = || {
-        let _ = black_box(plan_with(port::plan, black_box(table), &mut port_labels, &mut port_space));
+        let _ = black_box(black_box(table).plan(port::plan, &mut port_labels, &mut port_space));
     };
     let times = measure(&mut [&mut proved_call, &mut port_call], rounds);
-    let answer = plan_with(hubplan::plan, table, &mut labels, &mut space);
-    assert_eq!(answer, plan_with(port::plan, table, &mut port_labels, &mut port_space));
+    let answer = table.plan(hubplan::plan, &mut labels, &mut space);
+    assert_eq!(answer, table.plan(port::plan, &mut port_labels, &mut port_space));
     assert_eq!(labels, port_labels);
     (times[0], times[1], answer)
 }
@@ -139,15 +133,12 @@ fn micros(time: f64) -> String {
     }
 }
 
-/// The most rows that can be heard, as an integer program: a variable for each row and receiver; at each window's start at most one of the windows over it on each
-/// receiver (two windows overlap exactly if one covers the other's start); a must row's two add up to 1, and a receiver that hours or mark exclude has 0.
+/// The most rows that can be heard, as an integer program: a variable for each row and receiver; at each window's start at most one of the windows over it, each with the gap
+/// after it, on each receiver (two windows are too close exactly if one, with the gap after it, covers the other's start); a must row's two add up to 1, and a receiver that
+/// hours or mark exclude has 0.
 fn integer_program(table: &Table) -> String {
     let rows = table.rows();
-    let ticks = table.ticks as u32;
-    let covers = |i: usize, tick: u16| {
-        let length = (table.ends[i] as u32 + ticks - table.starts[i] as u32 - 1) % ticks + 1;
-        (tick as u32 + ticks - table.starts[i] as u32) % ticks < length
-    };
+    let reaches = |i: usize, tick: u16| first_free::reaches(table.kind, table.ticks, table.gap, [table.starts[i], table.ends[i]], tick);
     let name = |i: usize, receiver: usize| format!("x{i}_{receiver}");
     let sum = |names: Vec<String>| names.join(" + ");
     let mut text = String::from("Maximize\n heard: ");
@@ -158,7 +149,7 @@ fn integer_program(table: &Table) -> String {
         let relation = if port::allows(table.marks[i], 0) { "<=" } else { "=" };
         writeln!(text, " row{i}: {} {relation} 1", sum(vec![name(i, 1), name(i, 2)])).unwrap();
         for receiver in [1, 2] {
-            let over: Vec<String> = (0..rows).filter(|&j| covers(j, table.starts[i])).map(|j| name(j, receiver)).collect();
+            let over: Vec<String> = (0..rows).filter(|&j| reaches(j, table.starts[i])).map(|j| name(j, receiver)).collect();
             if over.len() > 1 {
                 writeln!(text, " tick{i}_{receiver}: {} <= 1", over.join("\n + ")).unwrap();
             }
@@ -224,6 +215,7 @@ fn old_planner(table: &Table, answer: Result<usize, Refusal>) -> (Spread, String
         old = black_box(first_free::plan(
             table.kind,
             table.ticks,
+            table.gap,
             &table.starts,
             &table.ends,
             &table.marks,
@@ -313,7 +305,7 @@ fn growth() {
 fn one_plan(index: usize, planner: Planner) {
     let (_, table) = &benchmark_tables()[index];
     let (mut labels, mut space) = (vec![0; 64], vec![0; SPACE_BYTES]);
-    let _ = black_box(plan_with(planner, table, &mut labels, &mut space));
+    let _ = black_box(table.plan(planner, &mut labels, &mut space));
 }
 
 /// The instructions of a function, and of what it calls, while this program runs with these words.
@@ -347,7 +339,7 @@ fn instructions(folder: &Path) {
     );
     println!("| table | planner | hand port | planner / port |");
     println!("|---|---|---|---|");
-    for index in [0, 4] {
+    for index in [0, 4, 13] {
         let name = benchmark_tables()[index].0;
         let number = index.to_string();
         let proved = counted(folder, &["one", &number, "planner"], "hub_plan_round");
@@ -366,7 +358,7 @@ type Step = fn(&[u8], Player) -> Stepped;
 fn player_tape() -> Vec<u8> {
     let (table, labels) = in_turn(12);
     let mut tape = vec![0; PLAN_TAPE_BYTES];
-    let length = hubplan::write_plan(table.kind, table.ticks, &table.starts, &table.ends, &table.marks, &labels, &mut tape);
+    let length = table.write_plan(&labels, &mut tape);
     assert_eq!(length, Ok(PLAN_TAPE_BYTES));
     tape
 }

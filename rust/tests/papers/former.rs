@@ -1,24 +1,29 @@
-//! The rules as they were before requests of paper 02: what "Tables with only 0 and 1 keep their plans" is compared with, and that request 3 changes nothing of a table in which
-//! no row sends all day. `BEFORE_2` are the rules that request 2 changed, and so on.
+//! The rules as they were before requests of paper 02: what "Tables with only 0 and 1 keep their plans" and "g of 0 is the former behaviour" are compared with, and that
+//! request 3 changes nothing of a table in which no row sends all day. `BEFORE_2` are the rules that request 2 changed, and so on.
 
-use super::{allowed, in_hours, window_holds, Rules, RULES};
+use super::{in_hours, overlaps, window_holds, Rules, RULES};
 use hubplan::tables::Table;
 use hubplan::Kind;
+
+/// "No two rows of one receiver overlap", and "touching is not overlapping": a table has no gap, and none is refused.
+pub const BEFORE_4: Rules = Rules {
+    gap: |_| 0,
+    clashes: overlaps,
+    ..RULES
+};
 
 /// What a window covers and check 6: request 3 changed no more.
 pub const BEFORE_3: Rules = Rules {
     ticks_of: ticks_to_end,
     window_holds: window_differs,
-    highest_mark: RULES.highest_mark,
-    allowed,
+    ..BEFORE_4
 };
 
 /// "7: a mark above 1."
 pub const BEFORE_2: Rules = Rules {
-    ticks_of: ticks_to_end,
-    window_holds: window_differs,
     highest_mark: 1,
     allowed: allowed_before_2,
+    ..BEFORE_3
 };
 
 /// "Start, start+1 and so on, going from R−1 to 0, up to the tick before end": the walk looks for the end from the start on, so that start equal to end covers nothing.

@@ -1,8 +1,9 @@
-//! Papers 00 and 01 once more, with requests 2 and 3 of paper 02, and request 1 in player.rs, written from their text alone and sharing no code with the planner: the comparison
-//! for the tests. Windows are sets of ticks, found by walking; up to 8 rows every list of labels is tried; a larger table is planned by a forward search over what each receiver
-//! is busy with. The rules that requests 2 and 3 changed stand as they were in former.rs.
+//! Papers 00 and 01 once more, with requests 2 to 4 of paper 02, and request 1 in player.rs, written from their text alone and sharing no code with the planner: the comparison
+//! for the tests. Windows are sets of ticks and gaps are steps, found by walking; up to 8 rows every list of labels is tried; a larger table is planned by a forward search over
+//! what each receiver is busy with. The rules that requests 2 to 4 changed stand as they were in former.rs.
 
 pub mod former;
+pub mod misread;
 pub mod player;
 
 use hubplan::tables::Table;
@@ -28,7 +29,7 @@ fn ticks_of(kind: Kind, ticks: u16, start: u16, end: u16) -> Vec<u64> {
 }
 
 /// For each two rows, whether some tick lies in both windows.
-pub fn overlaps(rules: &Rules, table: &Table) -> Vec<Vec<bool>> {
+fn overlaps(rules: &Rules, table: &Table) -> Vec<Vec<bool>> {
     let sets: Vec<Vec<u64>> = (0..table.rows())
         .map(|i| (rules.ticks_of)(table.kind, table.ticks, table.starts[i], table.ends[i]))
         .collect();
@@ -36,9 +37,43 @@ pub fn overlaps(rules: &Rules, table: &Table) -> Vec<Vec<bool>> {
     sets.iter().map(|a| sets.iter().map(|b| meet(a, b)).collect()).collect()
 }
 
-/// What requests 2 and 3 changed: the ticks of a window, whether a row's window passes check 6, the highest mark that is not refused, and which labels a row of a table may have, other rows aside.
+/// "Fewer than g ticks between them": walking on from the end of a window, the start of another is reached in fewer than g steps. "In a round the gap is counted round the
+/// circle"; in a run the walk ends at R.
+fn is_near(table: &Table, end: u16, start: u16) -> bool {
+    let mut tick = end;
+    for _ in 0..table.gap {
+        if tick == table.ticks {
+            return false;
+        }
+        if tick == start {
+            return true;
+        }
+        tick += 1;
+        if table.kind == Kind::Round && tick == table.ticks {
+            tick = 0;
+        }
+    }
+    false
+}
+
+/// For each two rows, "whether two windows overlap or have fewer than g ticks between them", and "the gaps on both sides must do".
+fn too_close(rules: &Rules, table: &Table) -> Vec<Vec<bool>> {
+    let mut close = overlaps(rules, table);
+    for i in 0..table.rows() {
+        for j in 0..table.rows() {
+            close[i][j] |= is_near(table, table.ends[i], table.starts[j]) || is_near(table, table.ends[j], table.starts[i]);
+        }
+    }
+    close
+}
+
+/// What requests 2 to 4 changed: the ticks of a window, the gap that is kept, which two rows one receiver cannot hear, whether a row's window passes check 6, the highest mark
+/// that is not refused, and which labels a row of a table may have, other rows aside.
+#[derive(Clone, Copy)]
 pub struct Rules {
     ticks_of: fn(Kind, u16, u16, u16) -> Vec<u64>,
+    gap: fn(&Table) -> u16,
+    clashes: fn(&Rules, &Table) -> Vec<Vec<bool>>,
     window_holds: fn(&Table, usize) -> bool,
     highest_mark: u8,
     allowed: fn(&Table, usize, u8) -> bool,
@@ -47,6 +82,8 @@ pub struct Rules {
 /// "Refusal 7 now begins at mark 6."
 pub const RULES: Rules = Rules {
     ticks_of,
+    gap: |table| table.gap,
+    clashes: too_close,
     window_holds,
     highest_mark: 5,
     allowed,
@@ -98,7 +135,7 @@ fn lists_refusal(table: &Table, labels: usize) -> u8 {
     }
 }
 
-/// Refusals 4 to 7.
+/// Refusals 4 to 7, and "14, g above 600, looked at after 5".
 fn table_refusal(rules: &Rules, table: &Table) -> u8 {
     if table.ticks < 2 || table.ticks > 43_200 {
         return 4;
@@ -109,6 +146,9 @@ fn table_refusal(rules: &Rules, table: &Table) -> u8 {
                 return 5;
             }
         }
+    }
+    if (rules.gap)(table) > 600 {
+        return 14;
     }
     for i in 0..table.rows() {
         if !(rules.window_holds)(table, i) {
@@ -121,11 +161,16 @@ fn table_refusal(rules: &Rules, table: &Table) -> u8 {
     0
 }
 
-pub fn is_plan(rules: &Rules, table: &Table, meet: &[Vec<bool>], labels: &[u8]) -> bool {
+/// Whether labels are a plan, by which two rows clash. Only different rows are asked: "A window is never too close to itself."
+fn is_plan_among(rules: &Rules, table: &Table, clash: &[Vec<bool>], labels: &[u8]) -> bool {
     let rows = table.rows();
     labels.len() == rows
         && (0..rows).all(|i| (rules.allowed)(table, i, labels[i]))
-        && (0..rows).all(|i| (0..i).all(|j| labels[i] == 0 || labels[i] != labels[j] || !meet[i][j]))
+        && (0..rows).all(|i| (0..i).all(|j| labels[i] == 0 || labels[i] != labels[j] || !clash[i][j]))
+}
+
+pub fn is_plan(rules: &Rules, table: &Table, labels: &[u8]) -> bool {
+    is_plan_among(rules, table, &(rules.clashes)(rules, table), labels)
 }
 
 pub fn heard(labels: &[u8]) -> usize {
@@ -147,11 +192,11 @@ fn comes_before(a: &[u8], b: &[u8]) -> bool {
 
 /// The right plan by trying every list of labels.
 pub fn plan_by_trying(rules: &Rules, table: &Table) -> Option<Vec<u8>> {
-    let meet = overlaps(rules, table);
+    let clash = (rules.clashes)(rules, table);
     let mut best: Option<Vec<u8>> = None;
     let mut labels = vec![0u8; table.rows()];
     loop {
-        if is_plan(rules, table, &meet, &labels) && best.as_ref().is_none_or(|b| comes_before(&labels, b)) {
+        if is_plan_among(rules, table, &clash, &labels) && best.as_ref().is_none_or(|b| comes_before(&labels, b)) {
             best = Some(labels.clone());
         }
         let Some(i) = labels.iter().position(|&label| label < 2) else {
@@ -183,77 +228,78 @@ impl Worth {
     }
 }
 
-/// The right plan by a forward search from tick 0: for each choice of the rows that go over the end of the day, rows by start, keeping the best for each two ticks until
-/// which the receivers are busy. A window that covers every tick goes over the end of the day, or lies from tick 0 to R - 1.
-pub fn plan_by_search(rules: &Rules, table: &Table) -> Option<Vec<u8>> {
-    let rows = table.rows();
-    let over_end: Vec<usize> = match table.kind {
-        Kind::Round => (0..rows).filter(|&i| table.ends[i] != 0 && table.ends[i] <= table.starts[i]).collect(),
+/// From which tick on a receiver that hears row i is free for another: after its window and the g ticks after it, counted on past R - 1 where they go over the end of the day.
+fn free_from(rules: &Rules, table: &Table, i: usize) -> u32 {
+    let (start, end) = (table.starts[i] as u32, table.ends[i] as u32);
+    let over_end = if end > start { 0 } else { table.ticks as u32 };
+    end + over_end + (rules.gap)(table) as u32
+}
+
+/// The rows that a receiver can be busy with at the end of the day into the next one, of which it hears at most one. In a run there is no next day.
+fn over_end(rules: &Rules, table: &Table) -> Vec<usize> {
+    match table.kind {
+        Kind::Round => (0..table.rows()).filter(|&i| free_from(rules, table, i) > table.ticks as u32).collect(),
         Kind::Run(_) => vec![],
-    };
-    let end = |i: usize| if table.ends[i] == 0 { table.ticks } else { table.ends[i] };
-    let mut line: Vec<usize> = (0..rows).filter(|i| !over_end.contains(i)).collect();
-    line.sort_by_key(|&i| table.starts[i]);
+    }
+}
+
+/// The right plan by a forward search from tick 0: for each choice of the rows that go over the end of the day, one for each receiver or none.
+pub fn plan_by_search(rules: &Rules, table: &Table) -> Option<Vec<u8>> {
+    let over_end = over_end(rules, table);
     let choices: Vec<Option<usize>> = std::iter::once(None).chain(over_end.iter().map(|&i| Some(i))).collect();
     let mut best: Option<Worth> = None;
     for &first in &choices {
         for &second in &choices {
-            if first.is_some() && first == second {
-                continue;
+            if first.is_none() || first != second {
+                best = best.max(best_beside(rules, table, &over_end, [first, second]));
             }
-            let mut worth = Worth { heard: 0, order: u128::MAX };
-            let mut fits = true;
-            for &i in &over_end {
-                let label = if Some(i) == first {
-                    1
-                } else if Some(i) == second {
-                    2
-                } else {
-                    0
-                };
-                fits &= (rules.allowed)(table, i, label);
-                worth = worth.with(i, label);
-            }
-            if !fits {
-                continue;
-            }
-            let opens = [first.map_or(0, |i| table.ends[i]), second.map_or(0, |i| table.ends[i])];
-            let closes = [
-                first.map_or(table.ticks, |i| table.starts[i]),
-                second.map_or(table.ticks, |i| table.starts[i]),
-            ];
-            let mut states = HashMap::from([(opens, worth)]);
-            for &i in &line {
-                let mut next: HashMap<[u16; 2], Worth> = HashMap::new();
-                for (&busy, &worth) in &states {
-                    let mut reach = |busy: [u16; 2], worth: Worth| {
-                        // a receiver that is free by now is free from now on
-                        let busy = busy.map(|tick| tick.max(table.starts[i]));
-                        let known = next.entry(busy).or_insert(worth);
-                        *known = worth.max(*known);
-                    };
-                    for label in [1u8, 2, 0] {
-                        if !(rules.allowed)(table, i, label) {
-                            continue;
-                        }
-                        if label == 0 {
-                            reach(busy, worth.with(i, 0));
-                            continue;
-                        }
-                        let receiver = label as usize - 1;
-                        if busy[receiver] <= table.starts[i] && end(i) <= closes[receiver] {
-                            let mut later = busy;
-                            later[receiver] = end(i);
-                            reach(later, worth.with(i, label));
-                        }
-                    }
-                }
-                states = next;
-            }
-            best = best.max(states.values().copied().max());
         }
     }
-    best.map(|worth| (0..rows).map(|i| worth.label(i)).collect())
+    best.map(|worth| (0..table.rows()).map(|i| worth.label(i)).collect())
+}
+
+/// The best where of the rows that go over the end of the day each receiver hears the chosen one: the others by start, keeping the best for each two ticks until which the
+/// receivers are busy. A receiver is free from where its chosen row leaves it, and what it hears leaves it free for that row's start.
+fn best_beside(rules: &Rules, table: &Table, over_end: &[usize], chosen: [Option<usize>; 2]) -> Option<Worth> {
+    let mut worth = Worth { heard: 0, order: u128::MAX };
+    for &i in over_end {
+        let label = (1u8..).zip(chosen).find(|&(_, row)| row == Some(i)).map_or(0, |(label, _)| label);
+        if !(rules.allowed)(table, i, label) {
+            return None;
+        }
+        worth = worth.with(i, label);
+    }
+    let opens = chosen.map(|row| row.map_or(0, |i| free_from(rules, table, i) - table.ticks as u32));
+    let closes = chosen.map(|row| row.map_or(u32::MAX, |i| table.starts[i] as u32));
+    let mut states = HashMap::from([(opens, worth)]);
+    let mut line: Vec<usize> = (0..table.rows()).filter(|i| !over_end.contains(i)).collect();
+    line.sort_by_key(|&i| table.starts[i]);
+    for i in line {
+        states = with_row(rules, table, i, closes, &states);
+    }
+    states.values().copied().max()
+}
+
+/// The states after row i, from those before it: for each label that the row can have.
+fn with_row(rules: &Rules, table: &Table, i: usize, closes: [u32; 2], states: &HashMap<[u32; 2], Worth>) -> HashMap<[u32; 2], Worth> {
+    let (start, free) = (table.starts[i] as u32, free_from(rules, table, i));
+    let mut next: HashMap<[u32; 2], Worth> = HashMap::new();
+    for label in (0..=2).filter(|&label| (rules.allowed)(table, i, label)) {
+        for (&busy, &worth) in states {
+            let mut later = busy;
+            if label > 0 {
+                let receiver = label as usize - 1;
+                if busy[receiver] > start || free > closes[receiver] {
+                    continue;
+                }
+                later[receiver] = free;
+            }
+            // a receiver that is free by now is free from now on
+            let known = next.entry(later.map(|tick| tick.max(start))).or_insert(worth.with(i, label));
+            *known = worth.with(i, label).max(*known);
+        }
+    }
+    next
 }
 
 /// What a call of the planner gives: refusal (0 for none), count and labels.
@@ -300,7 +346,7 @@ pub fn written(rules: &Rules, table: &Table, labels: &[u8], buffer: &[u8]) -> (u
     if refusal == 0 {
         refusal = table_refusal(rules, table);
     }
-    if refusal == 0 && !is_plan(rules, table, &overlaps(rules, table), labels) {
+    if refusal == 0 && !is_plan(rules, table, labels) {
         refusal = 9;
     }
     if refusal == 0 && buffer.len() < 8 + 6 * heard(labels) {

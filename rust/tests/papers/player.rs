@@ -54,7 +54,7 @@ pub fn is_taken(tape: &[u8]) -> bool {
         return false;
     };
     let rows = stated.parts.iter().flatten().map(|listen| listen[0] as usize + 1).max().unwrap_or(0);
-    // a row that the tape does not have can be anything that passes the checks
+    // a row that the tape does not have can be anything that passes the checks; "plan tapes are still read with g of 0", which an empty table has
     let mut table = Table::empty(stated.kind, stated.ticks);
     (table.starts, table.ends, table.marks) = (vec![0; rows], vec![1; rows], vec![0; rows]);
     let mut labels = vec![0; rows];

@@ -2,7 +2,7 @@
 //! compared, by the safe function over it, and by the hand port.
 
 use super::papers::player::{self as right, Told};
-use super::{random_setting, random_table, table_of, OneIn};
+use super::{random_gap, random_setting, random_table, table_of, OneIn};
 use hubplan::tables::{benchmark_tables, Sequence, Table};
 use hubplan::{player_port, port, Kind, Player, Receiver, Refusal, Stepped, PLAN_TAPE_BYTES, SPACE_BYTES};
 
@@ -103,9 +103,8 @@ fn compare_days(tape: &[u8], firsts: impl Iterator<Item = u16>) {
 fn plan_tape(table: &Table) -> Option<Vec<u8>> {
     let mut labels = vec![0; table.rows()];
     let mut tape = vec![0; PLAN_TAPE_BYTES];
-    let (starts, ends, marks) = (&table.starts, &table.ends, &table.marks);
-    port::plan(table.kind, table.ticks, starts, ends, marks, &mut labels, &mut vec![0; SPACE_BYTES]).ok()?;
-    let length = hubplan::write_plan(table.kind, table.ticks, starts, ends, marks, &labels, &mut tape).expect("the labels are a plan");
+    table.plan(port::plan, &mut labels, &mut vec![0; SPACE_BYTES]).ok()?;
+    let length = table.write_plan(&labels, &mut tape).expect("the labels are a plan");
     tape.truncate(length);
     Some(tape)
 }
@@ -113,27 +112,29 @@ fn plan_tape(table: &Table) -> Option<Vec<u8>> {
 #[test]
 fn every_first_tick_of_short_days() {
     let mut sequence = Sequence::new(800);
-    let (mut rounds, mut listens, mut all_day) = (0, 0, 0);
+    let (mut rounds, mut gaps, mut listens, mut all_day) = (0, 0, 0, 0);
     let one_in = OneIn {
         must: 1_000,
         only: 4,
         all_day: 4,
     };
-    for _ in 0..600 {
+    for _ in 0..700 {
         let (rows, ticks) = (sequence.within(0, 12) as usize, sequence.within(2, 40));
         let longest = sequence.within(1, ticks);
-        let table = random_table(&mut sequence, rows, ticks, longest, one_in);
+        let gap = random_gap(&mut sequence, ticks);
+        let table = random_table(&mut sequence, rows, ticks, longest, one_in).with_gap(gap);
         let Some(tape) = plan_tape(&table) else {
             continue;
         };
         compare_days(&tape, 0..table.ticks);
         rounds += u32::from(table.kind == Kind::Round);
+        gaps += u32::from(gap > 0);
         listens += tape.len() / 6 - 1;
         all_day += commands(&tape).into_iter().filter(|command| is_all_day(command)).count();
     }
     assert!(
-        rounds > 200 && rounds < 400 && listens > 1_500 && all_day > 50,
-        "{rounds} rounds, {listens} LISTENs, {all_day} of them all day"
+        rounds > 200 && rounds < 400 && gaps > 200 && listens > 1_500 && all_day > 50,
+        "{rounds} rounds, {gaps} tapes written with a gap, {listens} LISTENs, {all_day} of them all day"
     );
 }
 
