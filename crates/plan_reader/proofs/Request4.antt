@@ -1,6 +1,6 @@
 -- "Plan tapes are still read with g of 0" (request 4 of paper 02): so every tape that a writer with any gap writes is taken, whatever its table's hours.
 use Prim.Native.Nat.{ℕ}
-use mathlib.Core.Path.{_≡_}
+use mathlib.Core.Path.{_≡_, refl}
 use mathlib.Core.List.{List}
 use native.Mathlib.Omega.{arith}
 use lib.ListN.{take}
@@ -9,6 +9,7 @@ use Rattle.window.specs.Hours.{hoursFrom}
 use Rattle.window.proofs.Meaning.{window-end}
 use Rattle.refusals.specs.declared.Refusal.the-variants.{Accepted}
 use Rattle.table.specs.Tables.{settingOf, Table, table, rowAt, Plan, Valid}
+use Rattle.table.proofs.Plans.{allowed-alike}
 use Rattle.table.proofs.Request4.{plan-shorter}
 use Rattle.plan_tape.specs.Written.{tapeOf, written}
 use Rattle.plan_tape.proofs.Same.{accepted-tape}
@@ -38,14 +39,10 @@ module _ (t : Table) (valid : Valid t) where
         each = plan .each;
         allowed = λ i h.
             let a = plan .allowed i h in
-            record {
-              known = a .known;
-              must = a .must;
-              receiver-1 = a .receiver-1;
-              receiver-2 = a .receiver-2;
-              hours = opened (t .setting .kind) (t .setting .ticks) (rowAt t i) (at labels i) (a .known)
-                  (window-end (t .setting .kind) (t .setting .ticks) (rowAt t i .start) (rowAt t i .end) (valid .row i h .window));
-            };
+            allowed-alike (t .setting) (rowAt t i) (opened-table t .setting) (rowAt t i) refl (at labels i)
+            (opened (t .setting .kind) (t .setting .ticks) (rowAt t i) (at labels i) (a .known)
+            (window-end (t .setting .kind) (t .setting .ticks) (rowAt t i .start) (rowAt t i .end) (valid .row i h .window)))
+            a;
         apart = plan-shorter t 0 (omega arith) labels plan .apart;
       }
 

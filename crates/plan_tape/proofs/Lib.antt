@@ -6,4 +6,5 @@ pub mod Accepted
 pub mod Reading
 pub mod Same
 pub mod Demand
+pub mod Request4
 pub mod Sample

@@ -38,6 +38,17 @@ module _ (S : Setting) (row : Row) where
           ↔ (((x ≤ 2) × (((Must (row .mark) → x ≢ 0) × (Receiver1Only (row .mark) → x ≢ 2)) × (Receiver2Only (row .mark) → x ≢ 1))) × Open (S .kind) (S .hours) row x)
       clauses = and-iff (and-iff (leb-iff x 2) (allows-iff (row .mark) x)) (open-iff (S .kind) (S .hours) row x)
 
+  -- what is allowed to a row is allowed to one with its mark, where the receiver is open
+  pub allowed-alike : (S′ : Setting) (row′ : Row) → row .mark ≡ row′ .mark → (x : ℕ) → Open (S′ .kind) (S′ .hours) row′ x → Allowed S row x → Allowed S′ row′ x
+  allowed-alike S′ row′ q x o a =
+      record {
+        known = a .known;
+        must = λ e. a .must (rw q e);
+        receiver-1 = λ e. a .receiver-1 (rw q e);
+        receiver-2 = λ e. a .receiver-2 (rw q e);
+        hours = o;
+      }
+
   -- mark 0 asks nothing of a label
   pub unmarked : row .mark ≡ 0 → (x : ℕ) → x ≤ 2 → Open (S .kind) (S .hours) row x → Allowed S row x
   unmarked m x l o =

@@ -3,12 +3,13 @@
 use Prim.Native.Nat.{ℕ, zero, suc, _≤_, _<_}
 use mathlib.Core.Path.{_≡_, refl, sym, ap, _∙_}
 use mathlib.Core.Logic.{_≢_, _↔_}
+use mathlib.Core.Bool.{cond}
 use mathlib.Core.List.{List, [], _∷_}
 use native.Mathlib.Omega.{arith}
+use lib.Dec.{leb}
 use borrow.Author.Tests.{lt-leb}
 use Rattle.basics.specs.Lists.{at}
 use Rattle.window.specs.declared.Kind.the-variants.{Round}
-use Rattle.window.specs.declared.Row.{Row}
 use Rattle.window.specs.Rows.{row}
 use Rattle.window.specs.Hours.{noHours}
 use Rattle.window.specs.Windows.{walk, Covers}
@@ -17,10 +18,10 @@ use Rattle.window.proofs.Gaps.{too-close-more, whole-gap, free-after}
 use Rattle.refusals.specs.declared.Refusal.the-variants.{Accepted, Gap, NoPlan}
 use Rattle.refusals.specs.Refusals.{numberOf, answered}
 use Rattle.refusals.proofs.Refusals.{Passed, then-next}
-use Rattle.table.specs.declared.Setting.{Setting}
 use Rattle.table.specs.Tables.{settingOf, Table, table, tableOf, rows, rowAt, Allowed, Clash, Plan, Valid}
 use Rattle.table.specs.Checks.{listsRefusal, ticksRefusal, hoursRefusal, gapRefusal, settingRefusal, tableLooked}
 use Rattle.table.specs.Planned.{spaceRefusal, checked, bestPlan, answering, given, planned}
+use Rattle.table.proofs.Plans.{allowed-alike}
 use Rattle.table.proofs.Checked.{checked-valid}
 use Rattle.table.proofs.Rivals.{planned-passed, planned-refused, same-best, MustHear, three-clash}
 
@@ -56,58 +57,42 @@ long-gap-8 t before space p round long i j m d e f x y z =
 
 -- ---- "A window is never too close to itself."
 
--- in a round a row's mark alone tells its labels
-round-allowed : (S S′ : Setting) (row row′ : Row) → S′ .kind ≡ Round → row .mark ≡ row′ .mark → (x : ℕ) → Allowed S row x → Allowed S′ row′ x
-round-allowed S S′ row row′ k q x a =
-    record {
-      known = a .known;
-      must = λ e. a .must (rw q e);
-      receiver-1 = λ e. a .receiver-1 (rw q e);
-      receiver-2 = λ e. a .receiver-2 (rw q e);
-      hours = rw k tt;
-    }
-
--- one row alone in a round of 2 ticks
+-- one row alone in a round of 2 ticks, and the label that it has
 abbrev example : ℕ → Table
 example mark = tableOf (settingOf Round 2 0 noHours) (row 0 1 mark ∷ [])
 
--- A row alone in a round is heard, however long its window and the gap are, also where fewer than g ticks lie between its end and its start: by receiver 2 where its mark excludes receiver 1.
-module _ (t : Table) (before : List ℕ) (space : ℕ) (p : Passed (checked t before space)) (round : t .setting .kind ≡ Round) (n : rows t ≡ 1) where
-  as-example : (mark : ℕ) → rowAt t 0 .mark ≡ mark → Valid (example mark) → planned t before space ≡ given (bestPlan (example mark)) before
-  as-example mark e shown =
-      planned-passed t before space p
-      ∙ ap (λ o. given o before) (same-best t (example mark) (checked-valid t before space p .0) shown n mays (λ i j h l d. absurd (d (omega arith))))
-    where
-      mays : (i x : ℕ) → i < rows t → Allowed (t .setting) (rowAt t i) x ↔ Allowed (example mark .setting) (rowAt (example mark) i) x
-      mays zero x h = (
-        round-allowed (t .setting) (example mark .setting) (rowAt t 0) (rowAt (example mark) 0) refl e x,
-        round-allowed (example mark .setting) (t .setting) (rowAt (example mark) 0) (rowAt t 0) round (sym e) x,
-      )
-      mays (suc i) x h = absurd (omega arith)
+abbrev heardOn : ℕ → ℕ
+heardOn mark = cond (leb mark 3) 1 2
 
-  pub alone-on-1 : rowAt t 0 .mark ≤ 3 → planned t before space ≡ answering (answered Accepted 1) (1 ∷ [])
-  unfolding bestPlan checked given
-  alone-on-1 = go (rowAt t 0 .mark) refl
-    where
-      go : (mark : ℕ) → rowAt t 0 .mark ≡ mark → mark ≤ 3 → planned t before space ≡ answering (answered Accepted 1) (1 ∷ [])
-      go zero e l = as-example 0 e (checked-valid (example 0) (0 ∷ []) 16384 refl .0)
-      go (suc zero) e l = as-example 1 e (checked-valid (example 1) (0 ∷ []) 16384 refl .0)
-      go (suc (suc zero)) e l = as-example 2 e (checked-valid (example 2) (0 ∷ []) 16384 refl .0)
-      go (suc (suc (suc zero))) e l = as-example 3 e (checked-valid (example 3) (0 ∷ []) 16384 refl .0)
-      go (suc (suc (suc (suc mark)))) e l = absurd (omega arith)
+-- A row alone in a round is heard, however long its window and the gap are, also where fewer than g ticks lie between its end and its start: by receiver 2 where its mark, 4 or 5, excludes receiver 1.
+pub alone : (t : Table) (before : List ℕ) (space : ℕ) → Passed (checked t before space) → t .setting .kind ≡ Round → rows t ≡ 1
+    → planned t before space ≡ answering (answered Accepted 1) (heardOn (rowAt t 0 .mark) ∷ [])
+unfolding bestPlan checked given
+alone t before space p round n = go (rowAt t 0 .mark) refl
+  where
+    valid : Valid t
+    valid = checked-valid t before space p .0
 
-  pub alone-on-2 : 4 ≤ rowAt t 0 .mark → planned t before space ≡ answering (answered Accepted 1) (2 ∷ [])
-  unfolding bestPlan checked given
-  alone-on-2 low = go (rowAt t 0 .mark) refl
-    where
-      go : (mark : ℕ) → rowAt t 0 .mark ≡ mark → planned t before space ≡ answering (answered Accepted 1) (2 ∷ [])
-      go zero e = absurd (omega arith)
-      go (suc zero) e = absurd (omega arith)
-      go (suc (suc zero)) e = absurd (omega arith)
-      go (suc (suc (suc zero))) e = absurd (omega arith)
-      go (suc (suc (suc (suc zero)))) e = as-example 4 e (checked-valid (example 4) (0 ∷ []) 16384 refl .0)
-      go (suc (suc (suc (suc (suc zero))))) e = as-example 5 e (checked-valid (example 5) (0 ∷ []) 16384 refl .0)
-      go (suc (suc (suc (suc (suc (suc mark)))))) e = absurd (omega (arith, checked-valid t before space p .0 .row 0 (omega arith) .mark))
+    as-example : (mark : ℕ) → rowAt t 0 .mark ≡ mark → Passed (checked (example mark) (0 ∷ []) 16384) → planned t before space ≡ given (bestPlan (example mark)) before
+    as-example mark e q =
+        planned-passed t before space p
+        ∙ ap (λ o. given o before) (same-best t (example mark) valid (checked-valid (example mark) (0 ∷ []) 16384 q .0) n mays (λ i j h l d. absurd (d (omega arith))))
+      where
+        mays : (i x : ℕ) → i < rows t → Allowed (t .setting) (rowAt t i) x ↔ Allowed (example mark .setting) (rowAt (example mark) i) x
+        mays zero x h = (
+          allowed-alike (t .setting) (rowAt t 0) (example mark .setting) (rowAt (example mark) 0) e x tt,
+          allowed-alike (example mark .setting) (rowAt (example mark) 0) (t .setting) (rowAt t 0) (sym e) x (rw round tt),
+        )
+        mays (suc i) x h = absurd (omega arith)
+
+    go : (mark : ℕ) → rowAt t 0 .mark ≡ mark → planned t before space ≡ answering (answered Accepted 1) (heardOn mark ∷ [])
+    go zero e = as-example 0 e refl
+    go (suc zero) e = as-example 1 e refl
+    go (suc (suc zero)) e = as-example 2 e refl
+    go (suc (suc (suc zero))) e = as-example 3 e refl
+    go (suc (suc (suc (suc zero)))) e = as-example 4 e refl
+    go (suc (suc (suc (suc (suc zero))))) e = as-example 5 e refl
+    go (suc (suc (suc (suc (suc (suc mark)))))) e = absurd (omega (arith, valid .row 0 (omega arith) .mark))
 
 -- ---- a shorter gap
 
@@ -120,7 +105,7 @@ pub plan-shorter : (t : Table) (g : ℕ) → g ≤ t .setting .gap → (labels :
 plan-shorter t g l labels plan =
     record {
       each = plan .each;
-      allowed = λ i h. let a = plan .allowed i h in record { known = a .known; must = a .must; receiver-1 = a .receiver-1; receiver-2 = a .receiver-2; hours = a .hours };
+      allowed = λ i h. let a = plan .allowed i h in allowed-alike (t .setting) (rowAt t i) (withGap t g .setting) (rowAt t i) refl (at labels i) (a .hours) a;
       apart = λ i j h k d n e c.
           plan .apart i j h k d n e
           (too-close-more (t .setting .kind) (t .setting .ticks) g (rowAt t i .start) (rowAt t i .end) (rowAt t j .start) (rowAt t j .end) (t .setting .gap) l c);
@@ -128,17 +113,21 @@ plan-shorter t g l labels plan =
 
 -- ---- "Turned away: 14, g above 600, looked at after 5": and before the rows, whatever they are
 
-pub refused-14 : (t : Table) (before : List ℕ) (space : ℕ) → Passed (listsRefusal t before) → Passed (spaceRefusal space)
-    → Passed (ticksRefusal (t .setting .ticks)) → Passed (hoursRefusal (t .setting .kind) (t .setting .ticks) (t .setting .hours))
-    → (maxGap < t .setting .gap) → planned t before space ≡ answering (answered Gap 0) before
-unfolding checked tableLooked settingRefusal gapRefusal
-refused-14 t before space lists room ticks hours long =
-    planned-refused t before space (λ z. omega (arith, ap numberOf first)) ∙ ap (λ r. answering (answered r 0) before) (sym first)
-  where
-    setting : Gap ≡ settingRefusal (t .setting)
-    setting =
-        then-next {a = ticksRefusal (t .setting .ticks)} refl ticks
-        (then-next {a = hoursRefusal (t .setting .kind) (t .setting .ticks) (t .setting .hours)} refl hours (rw (lt-leb (t .setting .gap) maxGap long) refl))
+module _ (t : Table) (ticks : Passed (ticksRefusal (t .setting .ticks))) (hours : Passed (hoursRefusal (t .setting .kind) (t .setting .ticks) (t .setting .hours))) (long : maxGap < t .setting .gap) where
+  pub table-14 : Gap ≡ tableLooked t .refusal
+  unfolding tableLooked settingRefusal gapRefusal
+  table-14 = rw (← setting) refl
+    where
+      setting : Gap ≡ settingRefusal (t .setting)
+      setting =
+          then-next {a = ticksRefusal (t .setting .ticks)} refl ticks
+          (then-next {a = hoursRefusal (t .setting .kind) (t .setting .ticks) (t .setting .hours)} refl hours (rw (lt-leb (t .setting .gap) maxGap long) refl))
 
-    first : Gap ≡ checked t before space
-    first = then-next {a = listsRefusal t before} refl lists (then-next {a = spaceRefusal space} refl room (rw (← setting) refl))
+  -- by the planner (by the writer: the crate `plan_tape`, proofs/Request4.antt)
+  pub refused-14 : (before : List ℕ) (space : ℕ) → Passed (listsRefusal t before) → Passed (spaceRefusal space) → planned t before space ≡ answering (answered Gap 0) before
+  unfolding checked
+  refused-14 before space lists room =
+      planned-refused t before space (λ z. omega (arith, ap numberOf first)) ∙ ap (λ r. answering (answered r 0) before) (sym first)
+    where
+      first : Gap ≡ checked t before space
+      first = then-next {a = listsRefusal t before} refl lists (then-next {a = spaceRefusal space} refl room table-14)

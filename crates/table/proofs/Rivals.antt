@@ -119,13 +119,13 @@ same-best t u v w n mays clashes = go (bestPlan u) refl
     go none e = no-plan t v .1 (λ a P. no-plan u w .0 e a (plans a .0 P))
     go (some a) e = best-plan t v a .1 (best-iff (λ l. (plans l .1, plans l .0)) (best-plan u w a .0 e))
 
--- three rows that must be heard and clash with each other leave no plan: there are two receivers
 -- row i must be heard
 pub record MustHear (t : Table) (i : ℕ) : Type 0 where
   pub below : i < rows t
   pub must : Must (rowAt t i .mark)
 
 module _ (t : Table) (before : List ℕ) (space : ℕ) (p : Passed (checked t before space)) where
+  -- three rows that must be heard and clash with each other leave no plan: there are two receivers
   pub three-clash : (i j m : ℕ) → i ≢ j → i ≢ m → j ≢ m → MustHear t i → MustHear t j → MustHear t m
       → Clash (t .setting) (rowAt t i) (rowAt t j) → Clash (t .setting) (rowAt t i) (rowAt t m) → Clash (t .setting) (rowAt t j) (rowAt t m)
       → planned t before space ≡ answering (answered NoPlan 0) before
