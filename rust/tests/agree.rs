@@ -652,6 +652,8 @@ fn compare_with_former(sequence: &mut Sequence, former: &Former, table: &Table) 
     let plan = papers::planned(&former.rules, table, &before, SPACE_BYTES);
     compare_plan(hubplan::plan, table, rows, SPACE_BYTES, &plan);
     compare_plan(port::plan, table, rows, SPACE_BYTES, &plan);
+    assert_eq!(right_plan(table, rows, SPACE_BYTES), plan, "{table:?}");
+    // the two searches have much in common; all labels are tried by the former rules alone
     if rows <= 7 {
         assert_eq!(
             papers::plan_by_trying(&former.rules, table),
