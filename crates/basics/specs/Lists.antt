@@ -1,4 +1,4 @@
--- Believed: Lists of numbers: the entry at a place, a text at the front, bytes stored at a place, neighbours exchanged.
+-- Believed: Lists of numbers: the entry at a place, a text at the front, an entry taken out, bytes stored at a place, neighbours exchanged.
 use Prim.Native.Nat.{ℕ, zero, suc, _+_}
 use mathlib.Core.Path.{_≡_}
 use mathlib.Core.List.{List, [], _∷_, _++_}
@@ -12,6 +12,12 @@ at l i = getD l i 0
 -- the text stands at the front of a list that held `before`; the places after it are untouched
 abbrev pub front : List ℕ → List ℕ → List ℕ
 front text before = text ++ drop (length text) before
+
+-- the list without its entry k: later entries move up one
+unfoldable pub without : ℕ → List ℕ → List ℕ
+without k [] = []
+without zero (x ∷ l) = l
+without (suc k) (x ∷ l) = x ∷ without k l
 
 -- the bytes are stored from `place` on, the others are left, and `next` is the place after the bytes
 pub record Put (before : List ℕ) (place : ℕ) (bytes after : List ℕ) (next : ℕ) : Type 0 where

@@ -12,8 +12,8 @@ use lib.ListN.{length, take, drop, length-map}
 use lib.Seq.{take-at}
 use Rattle.refusals.specs.declared.Refusal.{Refusal}
 use Rattle.basics.proofs.Tests.{le-or-lt}
-use Rattle.basics.specs.Limits.{maxRows}
-use Rattle.fleet_tape.specs.Demand.{IsFleetTape, rowsGiven, Stated, Demand2, Places}
+use Rattle.basics.specs.Limits.{maxRows, Places, hasPlaces}
+use Rattle.fleet_tape.specs.Demand.{IsFleetTape, rowsGiven, Stated, Demand2}
 use Rattle.window.specs.declared.Kind.{Kind}
 use Rattle.refusals.specs.declared.Refusal.the-variants.{Accepted, Lists, Rows, Form}
 use Rattle.refusals.specs.Refusals.{numberOf}
@@ -22,7 +22,7 @@ use Rattle.tape.specs.Words.{Bytes}
 use Rattle.fleet_tape.specs.Fleet.{fleetTape, Fits, rowsOfLists, firstRows}
 use Rattle.window.specs.Rows.{startsOf, endsOf, marksOf}
 use Rattle.fleet_tape.specs.Form.{Fleet, fleet, hoursIn, fleetOf}
-use Rattle.fleet_tape.specs.Reading.{Reading, reading, refused, taken, judged, hasPlaces, fleetRead}
+use Rattle.fleet_tape.specs.Reading.{Reading, reading, refused, taken, judged, fleetRead}
 use Rattle.basics.specs.Lists.{front}
 use Rattle.fleet_tape.proofs.Parsed.{fleet-back, FleetStands, FleetKnown, fleet-known}
 

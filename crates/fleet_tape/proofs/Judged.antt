@@ -8,11 +8,11 @@ use native.Mathlib.Omega.{arith}
 use borrow.Author.Tests.{le-leb, lt-leb}
 use lib.ListN.{length, drop}
 use lib.Seq.{drop-drop}
-use Rattle.basics.proofs.Tests.{and-iff, eqb-iff}
 use Rattle.window.specs.declared.Kind.{Kind}
 use Rattle.window.specs.declared.Kind.the-variants.{Round, Run}
 use Rattle.refusals.specs.declared.Refusal.the-variants.{Accepted, Lists, Rows, Form}
 use Rattle.tape.specs.Commands.{ROUND, RUN, HOURS, operandBytes, begins}
+use Rattle.basics.specs.Limits.{hasPlaces}
 use Rattle.fleet_tape.specs.declared.Report.{Report}
 use Rattle.fleet_tape.specs.declared.Scanned.the-variants.{Count, Broken}
 use Rattle.window.specs.declared.Row.{Row}
@@ -20,8 +20,7 @@ use Rattle.window.specs.Rows.{startsOf, endsOf, marksOf}
 use Rattle.fleet_tape.specs.Form.{hoursOf, rowsIn, stated, fleetOf}
 use Rattle.window.specs.Hours.{noHours}
 use Rattle.fleet_tape.specs.Scan.{counted, listed}
-use Rattle.fleet_tape.specs.Demand.{Places}
-use Rattle.fleet_tape.specs.Reading.{Reading, reading, refused, taken, judged, hasPlaces, fleetRead}
+use Rattle.fleet_tape.specs.Reading.{Reading, reading, refused, taken, judged, fleetRead}
 use Rattle.basics.specs.Lists.{front}
 use Rattle.tape.specs.Words.{wordAt}
 use Rattle.tape.proofs.Heads.{begins-iff, begins-at}
@@ -52,11 +51,6 @@ module _ (kind : Kind) (R : ℕ) (hours : List (List ℕ)) (starts ends marks : 
   read-taken (some rows) n e h = let z : length rows ≡ n = cc in rw (le-leb (length rows) 64 (omega arith), z)
 
 -- ---- the head
-
-pub places-of : (starts ends marks : List ℕ) → hasPlaces (length starts) (length ends) (length marks) ≡ true → Places starts ends marks
-places-of starts ends marks e =
-    let p = and-iff (and-iff (eqb-iff (length starts) 64) (eqb-iff (length ends) 64)) (eqb-iff (length marks) 64) .0 e in
-    record { starts-64 = p .0 .0; ends-64 = p .0 .1; marks-64 = p .1 }
 
 -- R stands on the tape, after ROUND and after RUN
 pub ticks-fit : (c : ℕ) (s : List ℕ) → operandBytes c ≡ 2 → begins c s ≡ true → 2 < length s

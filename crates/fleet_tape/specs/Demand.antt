@@ -11,12 +11,6 @@ use Rattle.refusals.specs.declared.Refusal.the-variants.{Accepted, Rows, Form}
 use Rattle.fleet_tape.specs.Fleet.{fleetTape, Fits, firstRows}
 use Rattle.fleet_tape.specs.Reading.{Reading}
 
--- "into lists of 64"
-pub record Places (starts ends marks : List ℕ) : Type 0 where
-  pub starts-64 : length starts ≡ maxRows
-  pub ends-64 : length ends ≡ maxRows
-  pub marks-64 : length marks ≡ maxRows
-
 -- the bytes are a fleet tape with n rows
 pub record IsFleetTape (tape : List ℕ) (n : ℕ) : Type 0 where
   pub kind : Kind

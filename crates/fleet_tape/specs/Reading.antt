@@ -1,11 +1,11 @@
 -- Believed: The right answer of a call of the fleet tape reader, whole: the report and what the three lists then hold, on every input.
 use Prim.Native.Nat.{ℕ}
-use mathlib.Core.Bool.{Bool, cond, _&&_}
+use mathlib.Core.Bool.{cond}
 use mathlib.Core.List.{List}
 use mathlib.Core.Option.{Option, none, some}
-use lib.Dec.{leb, eqb}
+use lib.Dec.{leb}
 use lib.ListN.{length}
-use Rattle.basics.specs.Limits.{maxRows}
+use Rattle.basics.specs.Limits.{maxRows, hasPlaces}
 use Rattle.basics.specs.Lists.{front}
 use Rattle.window.specs.declared.Kind.the-variants.{Round}
 use Rattle.refusals.specs.declared.Refusal.{Refusal}
@@ -55,11 +55,7 @@ judged none starts ends marks = reading (refused Form) starts ends marks
 judged (some fleet) starts ends marks =
     cond (leb (length (fleet .rows)) maxRows) (taken fleet starts ends marks) (reading (refused Rows) starts ends marks)
 
--- "1: .. for the fleet tape reader, a list has other than 64 places"
-abbrev pub hasPlaces : ℕ → ℕ → ℕ → Bool
-hasPlaces starts ends marks = eqb starts maxRows && eqb ends maxRows && eqb marks maxRows
-
--- The reader's answer for a tape and three lists. "Reader's order: 1, 11, 2. The first that applies is reported .. Outputs .. are untouched."
+-- The reader's answer for a tape and three lists. "1: .. for the fleet tape reader, a list has other than 64 places". "Reader's order: 1, 11, 2. The first that applies is reported .. Outputs .. are untouched."
 unfoldable pub fleetRead : List ℕ → List ℕ → List ℕ → List ℕ → Reading
 unfolding judged fleetOf
 fleetRead tape starts ends marks =

@@ -5,8 +5,7 @@ use mathlib.Core.Bool.{Bool, _&&_}
 use mathlib.Core.List.{List, []}
 use mathlib.Core.Option.{Option, none, some}
 use lib.ListN.{length, getD, drop}
-use Rattle.fleet_tape.specs.Demand.{Places}
-use Rattle.basics.specs.Limits.{maxRows}
+use Rattle.basics.specs.Limits.{maxRows, Places}
 use Rattle.tape.specs.Commands.{begins}
 use Rattle.fleet_tape.specs.declared.Scanned.{Scanned}
 use Rattle.fleet_tape.specs.declared.Scanned.the-variants.{Count, Broken}

@@ -7,8 +7,9 @@ ghost use Rattle.tape.specs.Words.{Inside};
 ghost use Rattle.window.specs.Rows.{startsOf, endsOf, marksOf};
 ghost use Rattle.fleet_tape.specs.Form.{hoursOf, isRow, markOf, rowsIn, stated};
 ghost use Rattle.fleet_tape.specs.Scan.{rowFirst, counted, listed, Fillable};
-ghost use Rattle.fleet_tape.specs.Demand.{Places, Demand2};
-ghost use Rattle.fleet_tape.specs.Reading.{hasPlaces, refused, reading, judged, fleetRead};
+ghost use Rattle.fleet_tape.specs.Demand.{Demand2};
+ghost use Rattle.basics.specs.Limits.{Places};
+ghost use Rattle.fleet_tape.specs.Reading.{refused, reading, judged, fleetRead};
 ghost use Rattle.basics.specs.Lists.{front};
 use basics::MAX_ROWS;
 use refusals::Refusal;
@@ -63,19 +64,6 @@ fn refuse(refusal: Refusal) -> Report
     ensures { λ r. ⌜ r ≡ refused refusal ⌝ }
 {
     report_of(refusal, Kind::Round, 0, [[0, 0], [0, 0]], 0)
-}
-
-// Whether the three lists have 64 places each.
-fn has_places(starts: usize, ends: usize, marks: usize) -> bool
-    ensures { λ r. ⌜ r ≡ hasPlaces starts ends marks ⌝ }
-{
-    if starts != MAX_ROWS {
-        return false;
-    }
-    if ends != MAX_ROWS {
-        return false;
-    }
-    marks == MAX_ROWS
 }
 
 // Whether a byte is a row's command: 40 to 45.
@@ -194,7 +182,7 @@ fn read_rows(
 fn read_tape(tape: &[u8], starts: &mut [u16], ends: &mut [u16], marks: &mut [u8]) -> Report
     ensures { λ r. ⌜ reading r (now (starts .exit)) (now (ends .exit)) (now (marks .exit)) ≡ fleetRead (now (tape .entry)) (now (starts .entry)) (now (ends .entry)) (now (marks .entry)) ⌝ }
 {
-    if !has_places(starts.len(), ends.len(), marks.len()) {
+    if !basics::has_places(starts.len(), ends.len(), marks.len()) {
         return refuse(Refusal::Lists);
     }
     if begins(tape, 0, ROUND) {

@@ -6,7 +6,7 @@ use mathlib.Core.Option.{Option, none, some}
 use native.Mathlib.Omega.{arith}
 use lib.ListN.{length, drop, replicate}
 use lib.Seq.{drop-drop}
-use borrow.Author.Tests.{ne-eqb, le-leb, lt-leb}
+use borrow.Author.Tests.{le-leb, lt-leb}
 use Rattle.line.specs.Cells.{coreBytes}
 use Rattle.refusals.specs.declared.Refusal.{Refusal}
 use Rattle.refusals.specs.declared.Refusal.the-variants.{Space}
@@ -17,7 +17,8 @@ use Rattle.table.specs.Tables.{Table}
 use Rattle.table.specs.Checks.{listsRefusal, tableLooked}
 use Rattle.table.specs.Planned.{spaceBytes, spaceRefusal, checked, bestPlan, Planned, answering, given, planned, spaceAfter, called, planCall, Demand3}
 use Rattle.best_plan.specs.Rows.{Checked}
-use Rattle.table.proofs.Checked.{Not8, checked-8, checked-valid}
+use Rattle.table.proofs.Checked.{checked-8, checked-valid}
+use Rattle.table.proofs.Calls.{space-kept}
 use Rattle.table.proofs.Rivals.{planned-passed, planned-refused, demand-3}
 
 -- ---- a refusal
@@ -37,10 +38,6 @@ module _ (t : Table) (before space : List ℕ) where
   pub table-checked : Passed lists → spaceBytes ≤ length space → tableLooked t .refusal ≡ checked t before (length space)
   unfolding checked spaceRefusal
   table-checked p h = then-next {a = lists} {r = lists} refl {b = spaceRefusal (length space) then tableLooked t .refusal} p (rw (le-leb spaceBytes (length space) h) refl)
-
-  space-kept : (r : Refusal) → (numberOf r ≡ 0 → ⊥) → Not8 r → space ≡ spaceAfter r space
-  unfolding spaceAfter
-  space-kept r n h = rw (ne-eqb (numberOf r) 0 n, ne-eqb (numberOf r) 8 (h .not)) refl
 
   -- what a call promises of what it gives
   abbrev pub Promised : Answer → List ℕ → List ℕ → Type 0
@@ -62,7 +59,7 @@ module _ (t : Table) (before space : List ℕ) where
       let m : numberOf (checked t before (length space)) ≡ 0 → ⊥ = λ z. n (ap numberOf q ∙ z) in
       promised a before space
       (ap (λ x. answering x before) (e ∙ ap (λ x. answered x 0) q) ∙ sym (planned-refused t before (length space) m))
-      (rw e (space-kept r n (rw q (checked-8 t before (length space)))))
+      (rw e (space-kept r space n (rw q (checked-8 t before (length space)))))
 
   -- ---- an answer
 

@@ -5,7 +5,7 @@ use mathlib.Core.Bool.{Bool, true, false, cond, not}
 use native.Mathlib.Omega.{arith}
 use borrow.Author.Tests.{eq-eqb, ne-eqb, eqb-true, eqb-false, not-true, not-false}
 use Rattle.refusals.specs.declared.Refusal.{Refusal}
-use Rattle.refusals.specs.declared.Refusal.the-variants.{Accepted, Lists, Rows, Space, Ticks, Hours, Window, Mark, NoPlan, NotPlan, Buffer, Form, Tape, FirstTick, Gap}
+use Rattle.refusals.specs.declared.Refusal.the-variants.{Accepted, Lists, Rows, Space, Ticks, Hours, Window, Mark, NoPlan, NotPlan, Buffer, Form, Tape, FirstTick, Gap, NoRow}
 use Rattle.refusals.specs.Refusals.{numberOf, asked, passes, _then_}
 
 -- a check that refuses nothing
@@ -29,6 +29,26 @@ number-below Form = omega arith
 number-below Tape = omega arith
 number-below FirstTick = omega arith
 number-below Gap = omega arith
+number-below NoRow = omega arith
+
+-- only an accepted call has the number 0
+pub passed-accepted : (r : Refusal) → Passed r → r ≡ Accepted
+passed-accepted Accepted p = refl
+passed-accepted Lists p = absurd (omega arith)
+passed-accepted Rows p = absurd (omega arith)
+passed-accepted Space p = absurd (omega arith)
+passed-accepted Ticks p = absurd (omega arith)
+passed-accepted Hours p = absurd (omega arith)
+passed-accepted Window p = absurd (omega arith)
+passed-accepted Mark p = absurd (omega arith)
+passed-accepted NoPlan p = absurd (omega arith)
+passed-accepted NotPlan p = absurd (omega arith)
+passed-accepted Buffer p = absurd (omega arith)
+passed-accepted Form p = absurd (omega arith)
+passed-accepted Tape p = absurd (omega arith)
+passed-accepted FirstTick p = absurd (omega arith)
+passed-accepted Gap p = absurd (omega arith)
+passed-accepted NoRow p = absurd (omega arith)
 
 -- ---- what comes out, from what a function that makes the check returned
 
@@ -54,6 +74,14 @@ module _ {a b : Bool} (r : Refusal) (e : a ≡ b) where
 
 pub asked-passes : (x : Bool) (r : Refusal) → x ≡ true → Passed (asked x r)
 asked-passes x r e = rw e refl
+
+-- three checks, whichever two are taken together
+pub then-assoc : (a b c : Refusal) → ((a then b) then c) ≡ (a then b then c)
+then-assoc a b c = go (passes a) refl
+  where
+    go : (x : Bool) → passes a ≡ x → (cond x b a then c) ≡ cond x (b then c) a
+    go true e = refl
+    go false e = rw e refl
 
 pub then-passes : (a b : Refusal) → Passed a → Passed b → Passed (a then b)
 then-passes a b p q = rw (eq-eqb (numberOf a) 0 p) q
@@ -100,4 +128,5 @@ pub numbers :
     × (numberOf Tape ≡ 12)
     × (numberOf FirstTick ≡ 13)
     × (numberOf Gap ≡ 14)
-numbers = (refl, refl, refl, refl, refl, refl, refl, refl, refl, refl, refl, refl, refl, refl, refl)
+    × (numberOf NoRow ≡ 15)
+numbers = (refl, refl, refl, refl, refl, refl, refl, refl, refl, refl, refl, refl, refl, refl, refl, refl)

@@ -19,6 +19,7 @@ pub enum Refusal {
     Tape,
     FirstTick,
     Gap,
+    NoRow,
 }
 
 // What a call reports.
@@ -47,6 +48,7 @@ pub fn number(refusal: Refusal) -> u8
         Refusal::Tape => 12,
         Refusal::FirstTick => 13,
         Refusal::Gap => 14,
+        Refusal::NoRow => 15,
     }
 }
 

@@ -20,8 +20,9 @@ use Rattle.table.specs.Planned.{checked, bestPlan, Planned, given, planned, spa
 use Rattle.refusals.proofs.Refusals.{Passed, number-below}
 use Rattle.table.proofs.Checked.{checked-valid}
 use Rattle.table.proofs.Rivals.{best-plan, planned-passed, planned-refused}
+use Rattle.basics.specs.Limits.{hasPlaces}
 use Rattle.fleet_tape.specs.Form.{Fleet, fleetOf}
-use Rattle.fleet_tape.specs.Reading.{Reading, reading, refused, taken, judged, hasPlaces, fleetRead}
+use Rattle.fleet_tape.specs.Reading.{Reading, reading, refused, taken, judged, fleetRead}
 use Rattle.reply.specs.Lines.{heardWord, refusedWord, wordLine, rowLine, rowLines, printed}
 use Rattle.reply.specs.Replied.{places, refusedWith, readAnswer, tapeAnswer, Replied, replying, repliedWith, replied, InFront}
 use Rattle.reply.specs.Room.{Answerable, FreshLists}

@@ -1,11 +1,21 @@
--- What a planner call gives, taken apart.
+-- What a planner call gives, taken apart; and what a refused one leaves.
 use Prim.Native.Nat.{ℕ}
-use mathlib.Core.Path.{_≡_, ap}
+use mathlib.Core.Path.{_≡_, refl, ap}
+use mathlib.Core.Bool.{Bool, true, false, cond}
 use mathlib.Core.List.{List}
+use mathlib.Core.Option.{Option, none, some}
+use native.Mathlib.Omega.{arith}
+use borrow.Author.Tests.{ne-eqb, eqb-true, eqb-false}
 use lib.ListN.{length}
+use Rattle.labels.specs.Labels.{heard}
+use Rattle.refusals.specs.declared.Refusal.{Refusal}
+use Rattle.refusals.specs.declared.Refusal.the-variants.{Accepted}
 use Rattle.refusals.specs.declared.Answer.{Answer}
-use Rattle.table.specs.Tables.{Table}
-use Rattle.table.specs.Planned.{answering, planned, spaceAfter, PlanCalled, called, planCall}
+use Rattle.refusals.specs.Refusals.{numberOf, answered, passes}
+use Rattle.refusals.proofs.Refusals.{Passed}
+use Rattle.table.specs.Tables.{Table, Valid}
+use Rattle.table.specs.Planned.{checked, bestPlan, Planned, answering, given, planned, spaceAfter, PlanCalled, called, planCall}
+use Rattle.table.proofs.Checked.{Not8, checked-valid}
 
 module _ (t : Table) (before space : List ℕ) {answer : Answer} {labels space′ : List ℕ} (e : called answer labels space′ ≡ planCall t before space) where
   pub call-answer : answering answer labels ≡ planned t before (length space)
@@ -15,3 +25,47 @@ module _ (t : Table) (before space : List ℕ) {answer : Answer} {labels space�
   pub call-space : space′ ≡ spaceAfter (planned t before (length space) .answer .refusal) space
   unfolding planCall
   call-space = ap (λ (x : PlanCalled). x .space) e
+
+-- a refused call leaves the labels
+pub refused-kept : (t : Table) (before : List ℕ) (space : ℕ) → (numberOf (planned t before space .answer .refusal) ≡ 0 → ⊥) → planned t before space .labels ≡ before
+unfolding planned given
+refused-kept t before space = go (passes (checked t before space)) (bestPlan t)
+  where
+    go : (x : Bool) (o : Option (List ℕ)) → (numberOf (cond x (given o before) (answering (answered (checked t before space) 0) before) .answer .refusal) ≡ 0 → ⊥)
+        → cond x (given o before) (answering (answered (checked t before space) 0) before) .labels ≡ before
+    go true none n = refl
+    go true (some plan) n = absurd (n refl)
+    go false o n = refl
+
+-- a refusal other than 8 leaves the working space
+pub space-kept : (r : Refusal) (space : List ℕ) → (numberOf r ≡ 0 → ⊥) → Not8 r → space ≡ spaceAfter r space
+unfolding spaceAfter
+space-kept r space n h = rw (ne-eqb (numberOf r) 0 n, ne-eqb (numberOf r) 8 (h .not)) refl
+
+-- an accepted call gives the best plan of a table that has passed its checks
+pub record Given (t : Table) (p : Planned) : Type 0 where
+  pub valid : Valid t
+  pub best : bestPlan t ≡ some (p .labels)
+  pub answer : p .answer ≡ answered Accepted (heard (p .labels))
+
+pub accepted-given : (t : Table) (before : List ℕ) (space : ℕ) → Passed (planned t before space .answer .refusal) → Given t (planned t before space)
+unfolding planned given
+accepted-given t before space = go (passes (checked t before space)) refl (bestPlan t) refl
+  where
+    go : (x : Bool) → passes (checked t before space) ≡ x → (o : Option (List ℕ)) → bestPlan t ≡ o
+        → Passed (cond x (given o before) (answering (answered (checked t before space) 0) before) .answer .refusal)
+        → Given t (cond x (given o before) (answering (answered (checked t before space) 0) before))
+    go true e none f p = absurd (omega arith)
+    go true e (some plan) f p = record { valid = checked-valid t before space (eqb-true (numberOf (checked t before space)) 0 e) .0; best = f; answer = refl }
+    go false e o f p = absurd (eqb-false (numberOf (checked t before space)) 0 e p)
+
+-- a refused one reports the count 0
+pub refused-count : (t : Table) (before : List ℕ) (space : ℕ) → (numberOf (planned t before space .answer .refusal) ≡ 0 → ⊥) → planned t before space .answer ≡ answered (planned t before space .answer .refusal) 0
+unfolding planned given
+refused-count t before space = go (passes (checked t before space)) (bestPlan t)
+  where
+    go : (x : Bool) (o : Option (List ℕ)) → (numberOf (cond x (given o before) (answering (answered (checked t before space) 0) before) .answer .refusal) ≡ 0 → ⊥)
+        → cond x (given o before) (answering (answered (checked t before space) 0) before) .answer ≡ answered (cond x (given o before) (answering (answered (checked t before space) 0) before) .answer .refusal) 0
+    go true none n = refl
+    go true (some plan) n = absurd (n refl)
+    go false o n = refl

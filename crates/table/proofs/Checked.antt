@@ -43,7 +43,7 @@ lists-passed t labels p =
     ((s .0 .0, s .0 .1, s .1), leb-true n 64 (asked-passed (leb n 64) Rows (omega arith) (f .1)))
 
 -- a check r before the others, as `cond` has it
-then-looked : (r : Refusal) (n : ℕ) (rest : Looked) → Passed (cond (passes r) rest (looked r n) .refusal) → Passed r × Passed (rest .refusal)
+pub then-looked : (r : Refusal) (n : ℕ) (rest : Looked) → Passed (cond (passes r) rest (looked r n) .refusal) → Passed r × Passed (rest .refusal)
 then-looked r n rest = go (passes r) refl
   where
     go : (x : Bool) → passes r ≡ x → Passed (cond x rest (looked r n) .refusal) → Passed r × Passed (rest .refusal)
@@ -60,7 +60,7 @@ looked-passed check i (suc n) p k h l =
     ⊎-elim (λ q. rw (← q) (f .0)) (λ q. rest (omega arith) (omega arith)) (eq-or-lt-of-le h)
 
 module _ (S : Setting) where
-  setting-passed : Passed (settingRefusal S) → ValidSetting S
+  pub setting-passed : Passed (settingRefusal S) → ValidSetting S
   unfolding settingRefusal ticksRefusal gapRefusal
   setting-passed p =
       let ticks = leb 2 (S .ticks) && leb (S .ticks) 43200 in
@@ -83,7 +83,7 @@ module _ (S : Setting) where
       }
 
 module _ (t : Table) where
-  rows-passed : Passed (rowsLooked t .refusal) → ((length (t .ends) ≡ rows t) × (length (t .marks) ≡ rows t)) × ((i : ℕ) → i < rows t → Passed (rowCheck t i))
+  pub rows-passed : Passed (rowsLooked t .refusal) → ((length (t .ends) ≡ rows t) × (length (t .marks) ≡ rows t)) × ((i : ℕ) → i < rows t → Passed (rowCheck t i))
   unfolding rowsLooked
   rows-passed p =
       let f = cond-passed (isEven t) (lookFrom (rowCheck t) 0 (rows t)) (looked Lists 0) (omega arith) p in (
@@ -117,7 +117,7 @@ pub record Not8 (r : Refusal) : Type 0 where
   pub not : numberOf r ≢ 8
 
 -- the check refuses so, where it refuses
-asked-8 : (x : Bool) {r : Refusal} → Not8 r → Not8 (asked x r)
+pub asked-8 : (x : Bool) {r : Refusal} → Not8 r → Not8 (asked x r)
 asked-8 x = asked-either Not8 x (record { not = λ e. omega arith })
 
 cond-8 : (x : Bool) (a b : Looked) → Not8 (a .refusal) → Not8 (b .refusal) → Not8 (cond x a b .refusal)

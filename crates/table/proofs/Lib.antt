@@ -12,3 +12,4 @@ pub mod Request3
 pub mod Request4
 pub mod Calls
 pub mod Passing
+pub mod Changes

@@ -51,19 +51,20 @@ module _ (S : Setting) where
       (asked-passes shape Window (window-iff (S .kind) (S .ticks) (row .start) (row .end) .1 (v .window)))
       (asked-passes mark Mark (leb-iff (row .mark) maxMark .1 (v .mark)))
 
+-- equally long lists of at most 64 rows
+pub lengths-pass : (n e m l : ℕ) → n ≤ maxRows → e ≡ n → m ≡ n → l ≡ n → Passed (lengthsRefusal n e m l)
+unfolding lengthsRefusal
+lengths-pass n e m l few a b c =
+    let even = eqb e n && eqb m n && eqb l n in
+    then-passes (asked even Lists) (asked (leb n maxRows) Rows)
+    (asked-passes even Lists (and-iff (and-iff (eqb-iff e n) (eqb-iff m n)) (eqb-iff l n) .1 ((a, b), c)))
+    (asked-passes (leb n maxRows) Rows (leb-iff n maxRows .1 few))
+
 module _ (t : Table) (valid : Valid t) where
   pub lists-pass : (labels : List ℕ) → length labels ≡ rows t → Passed (listsRefusal t labels)
-  unfolding lengthsRefusal
-  lists-pass labels e =
-      let n = rows t in
-      let even = eqb (length (t .ends)) n && eqb (length (t .marks)) n && eqb (length labels) n in
-      then-passes (asked even Lists) (asked (leb n maxRows) Rows)
-      (asked-passes even Lists
-      (and-iff (and-iff (eqb-iff (length (t .ends)) n) (eqb-iff (length (t .marks)) n)) (eqb-iff (length labels) n) .1
-      ((valid .each-end, valid .each-mark), e)))
-      (asked-passes (leb n maxRows) Rows (leb-iff n maxRows .1 (valid .few)))
+  lists-pass labels e = lengths-pass (rows t) (length (t .ends)) (length (t .marks)) (length labels) (valid .few) (valid .each-end) (valid .each-mark) e
 
-  rows-pass : Passed (rowsLooked t .refusal)
+  pub rows-pass : Passed (rowsLooked t .refusal)
   unfolding rowsLooked
   rows-pass =
       rw (eq-eqb (length (t .ends)) (rows t) (valid .each-end), eq-eqb (length (t .marks)) (rows t) (valid .each-mark))

@@ -2,4 +2,5 @@
 pub mod Tables
 pub mod Checks
 pub mod Planned
+pub mod Changes
 pub mod Former

@@ -3,7 +3,7 @@ use Prim.Native.Nat.{ℕ}
 use mathlib.Core.Path.{_≡_}
 use mathlib.Core.Logic.{_↔_}
 use mathlib.Core.Bool.{cond, _||_}
-use mathlib.Core.List.{List, _++_}
+use mathlib.Core.List.{List, [], _++_}
 use mathlib.Core.Option.{Option, none, some}
 use lib.Dec.{leb, eqb}
 use lib.ListN.{length, drop, replicate}
@@ -46,6 +46,10 @@ unfoldable pub given : Option (List ℕ) → List ℕ → Planned
 unfolding heard
 given none before = answering (answered NoPlan 0) before
 given (some plan) before = answering (answered Accepted (heard plan)) plan
+
+-- what planning a table that passes its checks ends in: accepted, or "8: no plan exists"
+abbrev pub planRefusal : Table → Refusal
+planRefusal t = given (bestPlan t) [] .answer .refusal
 
 -- The planner's answer for a table, a label list that held `before`, and working space of so many bytes. "The first that applies is reported, with count 0. Outputs .. are untouched."
 unfoldable pub planned : Table → List ℕ → ℕ → Planned

@@ -72,7 +72,7 @@ fn check_hours(kind: Kind, ticks: u16, hours: [[u16; 2]; 2]) -> Refusal
 }
 
 // Check 14.
-fn check_gap(gap: u16) -> Refusal
+pub fn check_gap(gap: u16) -> Refusal
     ensures { λ r. ⌜ r ≡ gapRefusal gap ⌝ }
 {
     if MAX_GAP < gap {

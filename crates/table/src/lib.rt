@@ -1,5 +1,7 @@
 // Tables of windows: the setting, rows, the checks of a table, and the test whether labels are a plan.
 ghost use mathlib.Core.Path.{_≡_};
+ghost use Rattle.window.specs.declared.Kind.the-variants.{Round};
+ghost use Rattle.window.specs.Hours.{noHours};
 ghost use Rattle.table.specs.Tables.{settingOf, rowOf, RowIn};
 use refusals::Refusal;
 use window::Kind;
@@ -32,6 +34,13 @@ pub fn setting_of(kind: Kind, ticks: u16, gap: u16, hours: [[u16; 2]; 2]) -> Set
         gap,
         hours,
     }
+}
+
+// The setting of a round with a gap, in which hours are neither checked nor used.
+pub fn round_setting(ticks: u16, gap: u16) -> Setting
+    ensures { λ r. ⌜ r ≡ settingOf Round ticks gap noHours ⌝ }
+{
+    setting_of(Kind::Round, ticks, gap, [[0, 0], [0, 0]])
 }
 
 // The receivers' open hours.

@@ -5,7 +5,8 @@ use mathlib.Core.Bool.{Bool, true, false, not}
 use native.Mathlib.Omega.{arith}
 use borrow.Author.Tests.{not-true, not-false}
 use Rattle.tape.specs.Commands.{ROUND, RUN, operandBytes}
-use Rattle.fleet_tape.proofs.Judged.{reading-same, places-of, ticks-fit, hours-fit, read-unplaced, read-round, read-neither, read-no-hours, read-run}
+use Rattle.basics.proofs.Places.{places-of}
+use Rattle.fleet_tape.proofs.Judged.{reading-same, ticks-fit, hours-fit, read-unplaced, read-round, read-neither, read-no-hours, read-run}
 use borrow.Author.Needs.{needs}
 use Rattle.fleet_tape.proofs.read_tape.Statement.{statement}
 use Rattle.fleet_tape.proofs.read_tape.Tie as tie

@@ -1,7 +1,7 @@
--- `fleet_tape::has_places` meets its contract, from the tests on the way.
+-- `basics::has_places` meets its contract, from the tests on the way.
 use borrow.Author.Tests.{eq-eqb, ne-eqb}
-use Rattle.fleet_tape.proofs.has_places.Statement.{statement}
-use Rattle.fleet_tape.proofs.has_places.Tie as tie
+use Rattle.basics.proofs.has_places.Statement.{statement}
+use Rattle.basics.proofs.has_places.Tie as tie
 
 returns : tie.Need-returns
 returns c = simp (ne-eqb _ _ (c .if1 .taken))

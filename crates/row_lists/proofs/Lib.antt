@@ -1,0 +1,2 @@
+-- Laws of rows that move in their lists.
+pub mod Moving

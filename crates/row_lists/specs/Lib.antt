@@ -1,0 +1,2 @@
+-- What the contracts of the crate `row_lists` cite.
+pub mod Moved
