@@ -13,7 +13,7 @@ pub const BEFORE: u8 = 90;
 // The working space that a case is lent, if it does not say otherwise: 100 bytes more than the planner needs.
 pub const LENT_BYTES: usize = 16484;
 
-fn at_most(n: usize, most: usize) -> usize
+pub fn at_most(n: usize, most: usize) -> usize
     ensures { λ r. ⌜ r ≤ most ⌝ }
 {
     if n <= most { n } else { most }
@@ -39,7 +39,7 @@ pub fn first_bytes(list: &[u8], n: usize) -> &[u8]
 }
 
 // Whether a call reports the number and the count.
-fn is_answer(answer: Answer, number: u8, count: usize) -> bool {
+pub fn is_answer(answer: Answer, number: u8, count: usize) -> bool {
     let refusal = answer.refusal;
     if refusals::number(refusal) != number {
         return false;
@@ -88,7 +88,7 @@ pub fn is_left(space: &[u8], number: u8) -> bool
 }
 
 // How many labels are 1 or 2.
-fn heard(labels: &[u8]) -> usize {
+pub fn heard(labels: &[u8]) -> usize {
     let mut n: usize = 0;
     let mut i = 0;
     while i < labels.len() {
@@ -107,7 +107,7 @@ fn with_label(n: usize, label: u8) -> usize {
 }
 
 // The planner's answer if it is lent so many of the places for labels and so many of the bytes of working space.
-fn plan(
+pub fn plan(
     kind: Kind,
     ticks: u16,
     gap: u16,
