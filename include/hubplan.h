@@ -1,5 +1,6 @@
 /* The hub planner for C. `rt staticlib hub_c` proves and writes the library, target/staticlib/libhub_c.a (x86-64 Linux); each function below is proved to meet the
- * promise in its comment on every input (crates/hub_c; what the words mean is defined in the crates' specs/).
+ * promise in its comment on every input (crates/hub_c; what the words mean is defined in the crates' specs/). The functions hub_table_.. are no part of the library and not
+ * proved: they stand here whole, each a call of one that is.
  *
  * What a caller owes, since C cannot say it:
  * - each list is the address of its first element and its length in elements; the address is not NULL, also where the length is 0, and is aligned for its type;
@@ -21,7 +22,7 @@ extern "C" {
 /* Refusals, by their numbers in papers 01 and 02. The first that applies is reported, in the order given at each function. */
 enum hub_refusal {
     HUB_ACCEPTED = 0,
-    HUB_LISTS = 1,       /* lent lists differ in length; in hub_read_fleet, a list has other than 64 places */
+    HUB_LISTS = 1,       /* lent lists differ in length; in hub_read_fleet and of a held table, a list has other than 64 places */
     HUB_ROWS = 2,        /* more than 64 rows */
     HUB_SPACE = 3,       /* working space shorter than HUB_SPACE_BYTES */
     HUB_TICKS = 4,       /* ticks outside 2 to 43,200 */
@@ -34,7 +35,8 @@ enum hub_refusal {
     HUB_FORM = 11,       /* not of the form of a fleet tape */
     HUB_TAPE = 12,       /* not a plan tape that the writer can write, for any table and labels */
     HUB_FIRST_TICK = 13, /* first tick of a player not below the tape's ticks */
-    HUB_GAP = 14         /* gap above 600 */
+    HUB_GAP = 14,        /* gap above 600 */
+    HUB_NO_ROW = 15      /* row to be withdrawn not in the held table */
 };
 
 enum {
@@ -186,6 +188,108 @@ struct hub_started hub_player_start(const uint8_t *tape, size_t tape_length, uin
  * A command that is cut short is none, and what stands after these is not looked at. Of a receiver's LISTENs whose window breaks no rule (refusal 6) and covers the tick
  * the last is told. The next tick is one more, and in a round 0 after ticks - 1. */
 struct hub_stepped hub_player_step(const uint8_t *tape, size_t tape_length, struct hub_player player);
+
+/* The numbers of a held table: ticks and gap of its round, how many rows it has, and how many of them its plan hears. Rows and plan lie in four lists of HUB_MOST_ROWS places,
+ * starts, ends, marks and labels, of which the first `rows` places count and the others are left alone. The caller keeps numbers and lists, and hands them to each call. */
+struct hub_held_numbers {
+    uint16_t ticks;
+    uint16_t gap;
+    size_t rows;
+    size_t count;
+};
+
+/* What a begin gives: the refusal and the numbers. */
+struct hub_held_begun {
+    uint8_t refusal;
+    struct hub_held_numbers numbers;
+};
+
+/* What a change gives: the refusal, the count of the plan that is then held, 0 on a refusal, and the numbers; on a refusal these are the numbers that were handed over. */
+struct hub_held_change {
+    uint8_t refusal;
+    size_t count;
+    struct hub_held_numbers numbers;
+};
+
+/* Begins a held table of a round: no rows, count 0, in any lists, as no place of an empty table counts. A refusal gives an empty table of 2 ticks and gap 0.
+ * Order: 4, 14. */
+struct hub_held_begun hub_held_begin(uint16_t ticks, uint16_t gap);
+
+/* Adds a row after the last one and plans the whole table: what is promised here, and of hub_held_withdraw, is promised of held tables that came from these calls, so of
+ * numbers that the call before gave, an accepted or a refused one, with the lists as it left them.
+ *
+ * Accepted: the row stands at the place `rows` of starts, ends and marks, the labels are those that hub_plan_round gives for the table with it, so labels of other rows can
+ * change, and the numbers have one row more and the new count. The other places are untouched.
+ * A refusal changes neither table nor plan: all places of all lists are untouched. Working space fares as in hub_plan_round: the first HUB_SPACE_BYTES are cleared where the
+ * call is accepted and on 8, untouched otherwise. Order: 1, 2 where 64 rows are held, 3, 6 and 7 of the row, then 8.
+ *
+ * With any other numbers and lists: 1; 2 where `rows` is above 63; then the call is what hub_plan_round gives for the table with the row, with all of its checks from 3 on,
+ * so 4, 14 and other rows' 6 and 7 too. A refusal leaves numbers and lists as they were. */
+struct hub_held_change hub_held_add(struct hub_held_numbers numbers,
+                                    uint16_t *starts, size_t starts_length,
+                                    uint16_t *ends, size_t ends_length,
+                                    uint8_t *marks, size_t marks_length,
+                                    uint8_t *labels, size_t labels_length,
+                                    uint16_t start, uint16_t end, uint8_t mark,
+                                    uint8_t *space, size_t space_length);
+
+/* Withdraws a row by its number, counted from 0, and plans the whole table. It never ends in 8.
+ *
+ * Accepted: the later rows have moved up one, the labels are those that hub_plan_round gives for the table without the row, so labels of other rows can change, and the numbers
+ * have one row less and the new count. The place that falls free is untouched in all four lists: it holds the row that was the last, and the label that this row had. So is
+ * every place after it.
+ * Refusals and working space as in hub_held_add. Order: 1, 3, 15.
+ *
+ * With any other numbers and lists: 1, 3, 15; 2 where `rows` is above 64; then the call is what hub_plan_round gives for the table without the row, with all of its checks,
+ * so 4, 14, other rows' 6 and 7, and 8 too. A refusal leaves numbers and lists as they were. */
+struct hub_held_change hub_held_withdraw(struct hub_held_numbers numbers,
+                                         uint16_t *starts, size_t starts_length,
+                                         uint16_t *ends, size_t ends_length,
+                                         uint8_t *marks, size_t marks_length,
+                                         uint8_t *labels, size_t labels_length,
+                                         size_t row,
+                                         uint8_t *space, size_t space_length);
+
+/* A held table whole, for a caller in C: numbers and lists. hub_table_begin comes first; what the lists hold before it makes no difference. */
+struct hub_held_table {
+    struct hub_held_numbers numbers;
+    uint16_t starts[HUB_MOST_ROWS];
+    uint16_t ends[HUB_MOST_ROWS];
+    uint8_t marks[HUB_MOST_ROWS];
+    uint8_t labels[HUB_MOST_ROWS];
+};
+
+/* hub_held_begin for a whole table. Gives the refusal. */
+static inline uint8_t hub_table_begin(struct hub_held_table *table, uint16_t ticks, uint16_t gap)
+{
+    struct hub_held_begun begun = hub_held_begin(ticks, gap);
+    table->numbers = begun.numbers;
+    return begun.refusal;
+}
+
+/* For the two functions below: a change's numbers go to the table, its refusal and count to the caller. */
+static inline struct hub_answer hub_table_changed(struct hub_held_table *table, struct hub_held_change change)
+{
+    struct hub_answer answer = {change.refusal, change.count};
+    table->numbers = change.numbers;
+    return answer;
+}
+
+/* hub_held_add for a whole table. */
+static inline struct hub_answer hub_table_add(struct hub_held_table *table, uint16_t start, uint16_t end, uint8_t mark, uint8_t *space, size_t space_length)
+{
+    struct hub_held_change change = hub_held_add(table->numbers, table->starts, HUB_MOST_ROWS, table->ends, HUB_MOST_ROWS, table->marks, HUB_MOST_ROWS, table->labels,
+                                                 HUB_MOST_ROWS, start, end, mark, space, space_length);
+    return hub_table_changed(table, change);
+}
+
+/* hub_held_withdraw for a whole table. */
+static inline struct hub_answer hub_table_withdraw(struct hub_held_table *table, size_t row, uint8_t *space, size_t space_length)
+{
+    struct hub_held_change change = hub_held_withdraw(table->numbers, table->starts, HUB_MOST_ROWS, table->ends, HUB_MOST_ROWS, table->marks, HUB_MOST_ROWS, table->labels,
+                                                      HUB_MOST_ROWS, row, space, space_length);
+    return hub_table_changed(table, change);
+}
 
 #ifdef __cplusplus
 }

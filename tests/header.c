@@ -1,6 +1,6 @@
 /* Tests include/hubplan.h by itself: every function is called as the header declares it, on paper 01's session, on runs with unequal hours, with each mark, with windows that
- * cover every tick, with gaps, at each limit and for each refusal, and every constant, field and parameter is compared with the papers'. The numbers here are the papers', since
- * the header's constants are what is tested.
+ * cover every tick, with gaps, on held tables, at each limit and for each refusal, and every constant, field and parameter is compared with the papers'. The numbers here are the
+ * papers', since the header's constants are what is tested.
  *
  *   gcc -std=c99 -Wall -Wextra -Wpedantic -Werror -Iinclude tests/header.c target/staticlib/libhub_c.a -o target/header && target/header
  */
@@ -16,6 +16,10 @@
 #define hub_reply(...) hub_reply(__VA_ARGS__); static const char reply_takes[] = #__VA_ARGS__
 #define hub_player_start(...) hub_player_start(__VA_ARGS__); static const char player_start_takes[] = #__VA_ARGS__
 #define hub_player_step(...) hub_player_step(__VA_ARGS__); static const char player_step_takes[] = #__VA_ARGS__
+/* The header's functions hub_table_.. call these three, and have such a string of their own, unused. */
+#define hub_held_begin(...) hub_held_begin(__VA_ARGS__); static const char held_begin_takes[] __attribute__((unused)) = #__VA_ARGS__
+#define hub_held_add(...) hub_held_add(__VA_ARGS__); static const char held_add_takes[] __attribute__((unused)) = #__VA_ARGS__
+#define hub_held_withdraw(...) hub_held_withdraw(__VA_ARGS__); static const char held_withdraw_takes[] __attribute__((unused)) = #__VA_ARGS__
 #include "hubplan.h"
 #undef hub_plan_round
 #undef hub_plan_run
@@ -25,6 +29,9 @@
 #undef hub_reply
 #undef hub_player_start
 #undef hub_player_step
+#undef hub_held_begin
+#undef hub_held_add
+#undef hub_held_withdraw
 
 #define ROWS 64
 #define SPACE 16384
@@ -49,6 +56,14 @@ struct places {
     size_t starts_length, ends_length, marks_length;
 };
 
+/* A held table as it is lent: a place more in each list, and each length apart. */
+struct held {
+    struct hub_held_numbers numbers;
+    uint16_t starts[ROWS + 1], ends[ROWS + 1];
+    uint8_t marks[ROWS + 1], labels[ROWS + 1];
+    size_t starts_length, ends_length, marks_length, labels_length, space_length;
+};
+
 struct fleet {
     uint8_t bytes[500];
     size_t length;
@@ -59,8 +74,8 @@ static uint8_t tape[TAPE + BEYOND];
 static uint8_t out[REPLY + BEYOND];
 
 /* The header's refusals at the papers' numbers. */
-static const unsigned refusals[15] = {HUB_ACCEPTED, HUB_LISTS,   HUB_ROWS,     HUB_SPACE,  HUB_TICKS, HUB_HOURS, HUB_WINDOW, HUB_MARK,
-                                      HUB_NO_PLAN,  HUB_NOT_PLAN, HUB_BUFFER,  HUB_FORM,   HUB_TAPE,  HUB_FIRST_TICK, HUB_GAP};
+static const unsigned refusals[16] = {HUB_ACCEPTED, HUB_LISTS,   HUB_ROWS,     HUB_SPACE,  HUB_TICKS, HUB_HOURS, HUB_WINDOW, HUB_MARK,
+                                      HUB_NO_PLAN,  HUB_NOT_PLAN, HUB_BUFFER,  HUB_FORM,   HUB_TAPE,  HUB_FIRST_TICK, HUB_GAP, HUB_NO_ROW};
 
 /* Plan tapes of the session and of P9. */
 static const uint8_t session_tape[26] = {0x10, 0x00, 0x64, 0x20, 0x01, 0x30, 0x00, 0x00, 0x0A, 0x00, 0x1E, 0x30, 0x03,
@@ -450,11 +465,157 @@ static void start_refused(const char *what, const uint8_t *bytes, size_t length,
     stays_finished(what, session_tape, sizeof session_tape, s.player.tick);
 }
 
+/* ---- held tables ---- */
+
+static bool same_numbers(struct hub_held_numbers a, struct hub_held_numbers b)
+{
+    return a.ticks == b.ticks && a.gap == b.gap && a.rows == b.rows && a.count == b.count;
+}
+
+/* The same table for the functions over a whole one. */
+static struct hub_held_table whole(const struct held *h)
+{
+    struct hub_held_table t;
+    t.numbers = h->numbers;
+    memcpy(t.starts, h->starts, sizeof t.starts);
+    memcpy(t.ends, h->ends, sizeof t.ends);
+    memcpy(t.marks, h->marks, sizeof t.marks);
+    memcpy(t.labels, h->labels, sizeof t.labels);
+    return t;
+}
+
+static void check_whole(const char *what, const struct hub_held_table *t, const struct held *h)
+{
+    check(what, "numbers of the whole table", same_numbers(t->numbers, h->numbers));
+    check(what, "starts of the whole table", memcmp(t->starts, h->starts, sizeof t->starts) == 0);
+    check(what, "ends of the whole table", memcmp(t->ends, h->ends, sizeof t->ends) == 0);
+    check(what, "marks of the whole table", memcmp(t->marks, h->marks, sizeof t->marks) == 0);
+    check(what, "labels of the whole table", memcmp(t->labels, h->labels, sizeof t->labels) == 0);
+}
+
+/* A refused begin gives an empty table of 2 ticks and gap 0. */
+static struct held begun(const char *what, uint16_t ticks, uint16_t gap, unsigned number)
+{
+    struct held h;
+    struct hub_held_numbers right = {number ? 2 : ticks, number ? 0 : gap, 0, 0};
+    memset(&h, BEFORE, sizeof h);
+    h.starts_length = h.ends_length = h.marks_length = h.labels_length = ROWS;
+    h.space_length = SPACE;
+    struct hub_held_table t = whole(&h);
+    struct hub_held_begun b = hub_held_begin(ticks, gap);
+    h.numbers = b.numbers;
+    check_refusal(what, b.refusal, number);
+    check(what, "the numbers", same_numbers(h.numbers, right));
+    check_refusal(what, hub_table_begin(&t, ticks, gap), number);
+    check_whole(what, &t, &h);
+    return h;
+}
+
+/* What a change gave, and every place of the lists, the one beyond them too. */
+static void changed(const char *what, const struct held *h, struct hub_held_change c, const struct held *right, unsigned number)
+{
+    check_refusal(what, c.refusal, number);
+    check(what, "the count", c.count == (number ? 0 : right->numbers.count));
+    check(what, "the numbers", same_numbers(h->numbers, right->numbers));
+    check(what, "starts", memcmp(h->starts, right->starts, sizeof h->starts) == 0);
+    check(what, "ends", memcmp(h->ends, right->ends, sizeof h->ends) == 0);
+    check(what, "marks", memcmp(h->marks, right->marks, sizeof h->marks) == 0);
+    check(what, "labels", memcmp(h->labels, right->labels, sizeof h->labels) == 0);
+    check_space(what, number == 0 || number == 8);
+}
+
+/* The same change of the whole table, whose lists have 64 places each. */
+static void changed_whole(const char *what, const struct hub_held_table *t, struct hub_answer a, const struct held *right, unsigned number)
+{
+    check_refusal(what, a.refusal, number);
+    check(what, "the count of the whole table", a.count == (number ? 0 : right->numbers.count));
+    check_whole(what, t, right);
+    check_space(what, number == 0 || number == 8);
+}
+
+static void add(const char *what, struct held *h, uint16_t start, uint16_t end, uint8_t mark, const struct held *right, unsigned number)
+{
+    struct hub_held_table t = whole(h);
+    memset(space, BEFORE, sizeof space);
+    struct hub_held_change c = hub_held_add(h->numbers, h->starts, h->starts_length, h->ends, h->ends_length, h->marks, h->marks_length, h->labels,
+                                            h->labels_length, start, end, mark, space, h->space_length);
+    h->numbers = c.numbers;
+    changed(what, h, c, right, number);
+    *h = *right; /* so that the next call is judged by itself */
+    if (number == 1)
+        return;
+    memset(space, BEFORE, sizeof space);
+    struct hub_answer a = hub_table_add(&t, start, end, mark, space, h->space_length);
+    changed_whole(what, &t, a, right, number);
+}
+
+static void withdraw(const char *what, struct held *h, size_t row, const struct held *right, unsigned number)
+{
+    struct hub_held_table t = whole(h);
+    memset(space, BEFORE, sizeof space);
+    struct hub_held_change c = hub_held_withdraw(h->numbers, h->starts, h->starts_length, h->ends, h->ends_length, h->marks, h->marks_length, h->labels,
+                                                 h->labels_length, row, space, h->space_length);
+    h->numbers = c.numbers;
+    changed(what, h, c, right, number);
+    *h = *right; /* so that the next call is judged by itself */
+    if (number == 1)
+        return;
+    memset(space, BEFORE, sizeof space);
+    struct hub_answer a = hub_table_withdraw(&t, row, space, h->space_length);
+    changed_whole(what, &t, a, right, number);
+}
+
+/* A plan, as text, with its number of rows and its count. */
+static void set_plan(struct held *h, const char *labels)
+{
+    h->numbers.rows = strlen(labels);
+    h->numbers.count = 0;
+    for (size_t i = 0; labels[i]; i++) {
+        h->labels[i] = (uint8_t)(labels[i] - '0');
+        h->numbers.count += labels[i] != '0';
+    }
+}
+
+static void added(const char *what, struct held *h, uint16_t start, uint16_t end, uint8_t mark, const char *labels)
+{
+    struct held right = *h;
+    size_t last = h->numbers.rows;
+    right.starts[last] = start;
+    right.ends[last] = end;
+    right.marks[last] = mark;
+    set_plan(&right, labels);
+    add(what, h, start, end, mark, &right, 0);
+}
+
+static void add_refused(const char *what, struct held *h, uint16_t start, uint16_t end, uint8_t mark, unsigned number)
+{
+    struct held right = *h;
+    add(what, h, start, end, mark, &right, number);
+}
+
+/* The later rows move up one; the place that falls free keeps what it held. */
+static void withdrew(const char *what, struct held *h, size_t row, const char *labels)
+{
+    struct held right = *h;
+    size_t later = h->numbers.rows - 1 - row;
+    memmove(right.starts + row, right.starts + row + 1, later * sizeof right.starts[0]);
+    memmove(right.ends + row, right.ends + row + 1, later * sizeof right.ends[0]);
+    memmove(right.marks + row, right.marks + row + 1, later);
+    set_plan(&right, labels);
+    withdraw(what, h, row, &right, 0);
+}
+
+static void withdraw_refused(const char *what, struct held *h, size_t row, unsigned number)
+{
+    struct held right = *h;
+    withdraw(what, h, row, &right, number);
+}
+
 /* ---- the groups ---- */
 
 static void constants(void)
 {
-    for (unsigned i = 0; i < 15; i++)
+    for (unsigned i = 0; i < 16; i++)
         check("a refusal", "its constant is the papers' number", refusals[i] == i);
     check("marks", "for either receiver", HUB_MAY == 0 && HUB_MUST == 1);
     check("marks", "for receiver 1 only", HUB_MAY_1 == 2 && HUB_MUST_1 == 3);
@@ -502,6 +663,21 @@ static void structs(void)
     check("hub_stepped", "receiver1", offsetof(struct hub_stepped, receiver1) == 2);
     check("hub_stepped", "receiver2", offsetof(struct hub_stepped, receiver2) == 6);
     check("hub_stepped", "player", offsetof(struct hub_stepped, player) == 10);
+    struct hub_held_table h;
+    check("hub_held_numbers", "sizes", sizeof h.numbers == 24 && sizeof h.numbers.ticks == 2 && sizeof h.numbers.gap == 2);
+    check("hub_held_numbers", "sizes of rows and count", sizeof h.numbers.rows == 8 && sizeof h.numbers.count == 8);
+    check("hub_held_numbers", "ticks", offsetof(struct hub_held_numbers, ticks) == 0);
+    check("hub_held_numbers", "gap", offsetof(struct hub_held_numbers, gap) == 2);
+    check("hub_held_numbers", "rows", offsetof(struct hub_held_numbers, rows) == 8);
+    check("hub_held_numbers", "count", offsetof(struct hub_held_numbers, count) == 16);
+    check("hub_held_begun", "sizes", sizeof(struct hub_held_begun) == 32);
+    check("hub_held_begun", "refusal", offsetof(struct hub_held_begun, refusal) == 0);
+    check("hub_held_begun", "numbers", offsetof(struct hub_held_begun, numbers) == 8);
+    check("hub_held_change", "sizes", sizeof(struct hub_held_change) == 40);
+    check("hub_held_change", "refusal", offsetof(struct hub_held_change, refusal) == 0);
+    check("hub_held_change", "count", offsetof(struct hub_held_change, count) == 8);
+    check("hub_held_change", "numbers", offsetof(struct hub_held_change, numbers) == 16);
+    check("hub_held_table", "places", sizeof h.starts == 2 * ROWS && sizeof h.ends == 2 * ROWS && sizeof h.marks == ROWS && sizeof h.labels == ROWS);
     end_group("structs");
 }
 
@@ -510,6 +686,7 @@ static void structs(void)
 #define TABLE ", const uint16_t *starts, size_t starts_length, const uint16_t *ends, size_t ends_length, const uint8_t *marks, size_t marks_length"
 #define PLANS ", uint8_t *labels, size_t labels_length, uint8_t *space, size_t space_length"
 #define WRITES ", const uint8_t *labels, size_t labels_length, uint8_t *tape, size_t tape_length"
+#define HELD "struct hub_held_numbers numbers, uint16_t *starts, size_t starts_length, uint16_t *ends, size_t ends_length, uint8_t *marks, size_t marks_length"
 
 static void parameters(void)
 {
@@ -523,6 +700,11 @@ static void parameters(void)
                                                          "uint8_t *space, size_t space_length") == 0);
     check("hub_player_start", "parameters", strcmp(player_start_takes, "const uint8_t *tape, size_t tape_length, uint16_t first") == 0);
     check("hub_player_step", "parameters", strcmp(player_step_takes, "const uint8_t *tape, size_t tape_length, struct hub_player player") == 0);
+    check("hub_held_begin", "parameters", strcmp(held_begin_takes, TICKS) == 0);
+    check("hub_held_add", "parameters", strcmp(held_add_takes, HELD ", uint8_t *labels, size_t labels_length, uint16_t start, uint16_t end, uint8_t mark, "
+                                                               "uint8_t *space, size_t space_length") == 0);
+    check("hub_held_withdraw", "parameters", strcmp(held_withdraw_takes, HELD ", uint8_t *labels, size_t labels_length, size_t row, "
+                                                                         "uint8_t *space, size_t space_length") == 0);
     end_group("parameters");
 }
 
@@ -1211,6 +1393,188 @@ static void other_bytes(void)
     end_group("other bytes");
 }
 
+/* Both sides of each limit of R and of the gap. */
+static void held_begins(void)
+{
+    static const uint16_t ticks[6] = {0, 1, 2, 43200, 43201, 65535}, gaps[4] = {0, 600, 601, 65535};
+    for (size_t i = 0; i < 24; i++) {
+        uint16_t r = ticks[i / 4], g = gaps[i % 4];
+        bool ticks_wrong = r < 2 || r > 43200, gap_wrong = g > 600;
+        char what[60];
+        snprintf(what, sizeof what, "begun with %u ticks, gap %u", r, g);
+        struct held h = begun(what, r, g, ticks_wrong ? 4 : gap_wrong ? 14 : 0);
+        if (!ticks_wrong && !gap_wrong) {
+            added(what, &h, (uint16_t)(r - 1), 0, 1, "1");
+            add_refused(what, &h, r, 0, 1, 6);
+            continue;
+        }
+        added(what, &h, 0, 1, 3, "1"); /* in 2 ticks with gap 0 */
+        added(what, &h, 1, 0, 3, "11");
+        add_refused(what, &h, 2, 0, 0, 6);
+    }
+    end_group("held tables begun");
+}
+
+/* Worked examples, call by call: begun with ticks and gap, a row added, by start, end and mark, or withdrawn, by its number; and the labels then, none for refusal 8. */
+static void held_examples(void)
+{
+    enum { BEGIN, ADD, WITHDRAW };
+    static const struct { int call; uint16_t numbers[3]; const char *labels; } calls[] = {
+        /* P2, and its rows again in another order */
+        {BEGIN, {100, 0}, ""},       {ADD, {10, 30, 0}, "1"},    {ADD, {20, 40, 0}, "12"},    {ADD, {25, 50, 0}, "120"},   {ADD, {90, 10, 0}, "1201"},
+        {WITHDRAW, {0}, "121"},      {ADD, {10, 30, 0}, "1210"}, {WITHDRAW, {1}, "112"},      {WITHDRAW, {2}, "11"},       {ADD, {25, 50, 1}, "112"},
+        {WITHDRAW, {0}, "11"},       {WITHDRAW, {0}, "1"},       {WITHDRAW, {0}, ""},
+        /* P4: the third row that must be heard is refused, and is taken when another one is gone */
+        {BEGIN, {100, 0}, ""},       {ADD, {10, 30, 1}, "1"},    {ADD, {20, 40, 1}, "12"},    {ADD, {25, 50, 1}, NULL},    {ADD, {25, 50, 0}, "120"},
+        {ADD, {90, 10, 4}, "1202"},  {ADD, {26, 27, 5}, NULL},   {WITHDRAW, {1}, "122"},      {ADD, {26, 27, 5}, "1022"},  {ADD, {20, 40, 1}, NULL},
+        {WITHDRAW, {0}, "122"},      {ADD, {20, 40, 1}, "0221"},
+        /* one receiver only: the row that is withdrawn leaves its receiver to others, and marks move with their rows */
+        {BEGIN, {10, 0}, ""},        {ADD, {0, 2, 3}, "1"},      {ADD, {0, 2, 2}, "10"},      {ADD, {0, 2, 0}, "102"},     {ADD, {0, 2, 4}, "1020"},
+        {WITHDRAW, {0}, "120"},      {WITHDRAW, {1}, "12"},      {ADD, {0, 2, 5}, "102"},     {WITHDRAW, {1}, "12"},       {WITHDRAW, {0}, "2"},
+        /* the session with gaps: its rows 1 and 0 withdrawn */
+        {BEGIN, {100, 16}, ""},      {ADD, {10, 30, 0}, "1"},    {ADD, {20, 40, 0}, "12"},    {ADD, {25, 50, 0}, "120"},   {ADD, {90, 10, 0}, "1200"},
+        {WITHDRAW, {1}, "120"},      {WITHDRAW, {0}, "12"},      {WITHDRAW, {1}, "1"},
+        /* three that send all day */
+        {BEGIN, {10, 600}, ""},      {ADD, {3, 3, 0}, "1"},      {ADD, {7, 7, 0}, "12"},      {ADD, {0, 0, 0}, "120"},     {WITHDRAW, {1}, "12"},
+        {ADD, {5, 6, 3}, "201"},     {WITHDRAW, {1}, "21"},      {WITHDRAW, {1}, "1"}};
+    struct held h = begun("held table", 2, 0, 0);
+    for (size_t i = 0; i < sizeof calls / sizeof *calls; i++) {
+        const uint16_t *n = calls[i].numbers;
+        char what[60];
+        snprintf(what, sizeof what, "call %zu of held tables", i);
+        if (calls[i].call == BEGIN)
+            h = begun(what, n[0], n[1], 0);
+        else if (calls[i].call == WITHDRAW)
+            withdrew(what, &h, n[0], calls[i].labels);
+        else if (calls[i].labels)
+            added(what, &h, n[0], n[1], (uint8_t)n[2], calls[i].labels);
+        else
+            add_refused(what, &h, n[0], n[1], (uint8_t)n[2], 8);
+    }
+    end_group("held tables by example");
+}
+
+/* 64 rows of one tick each, with marks 0 to 3 in turn, that receiver 1 hears. */
+static struct held held_64(const char *ones)
+{
+    struct held h = begun("64 rows", 100, 0, 0);
+    for (uint16_t i = 0; i < ROWS; i++)
+        added("up to 64 rows", &h, i, (uint16_t)(i + 1), i % 4, ones + ROWS - 1 - i);
+    return h;
+}
+
+static void held_limits(void)
+{
+    char ones[ROWS + 1];
+    struct held h = held_64(labels_of_many(false, ones));
+    add_refused("the 65th row", &h, 70, 71, 0, 2);
+    withdraw_refused("row 64 of 64", &h, 64, 15);
+    withdraw_refused("the last number", &h, SIZE_MAX, 15);
+    withdrew("row 63 of 64", &h, 63, ones + 1);
+    withdraw_refused("row 63 of 63", &h, 63, 15);
+    added("the 64th row again", &h, 70, 71, 2, ones);
+    add_refused("the 65th row again", &h, 80, 81, 0, 2);
+    withdrew("row 0 of 64", &h, 0, ones + 1);
+    h.space_length = SPACE - 1;
+    add_refused("16,383 bytes", &h, 80, 81, 0, 3);
+    withdraw_refused("16,383 bytes", &h, 0, 3);
+    h.space_length = SPACE + BEYOND;
+    added("more than 16,384 bytes", &h, 80, 81, 0, ones);
+    withdrew("more than 16,384 bytes", &h, 1, ones + 1);
+    for (size_t rows = ROWS - 1; rows > 0; rows--)
+        withdrew("down to no rows", &h, 29 % rows, ones + ROWS + 1 - rows);
+    withdraw_refused("row 0 of none", &h, 0, 15);
+    end_group("limits of held tables");
+}
+
+/* Wrong in every way: mended one by one, the refusals come in the order that the header gives. */
+static void held_refusals(void)
+{
+    char labels[ROWS + 1];
+    struct held h = held_64(labels_of_many(false, labels));
+    size_t *lengths[4] = {&h.starts_length, &h.ends_length, &h.marks_length, &h.labels_length};
+    h.space_length = SPACE - 1;
+    for (size_t i = 0; i < 8; i++) {
+        *lengths[i / 2] = i % 2 ? ROWS + 1 : ROWS - 1;
+        add_refused(i % 2 ? "a list of 65 places" : "a list of 63 places", &h, 47, 100, 6, 1);
+        withdraw_refused(i % 2 ? "a list of 65 places" : "a list of 63 places", &h, ROWS, 1);
+        *lengths[i / 2] = ROWS;
+    }
+    add_refused("hub_held_add", &h, 47, 100, 6, 2);
+    withdraw_refused("hub_held_withdraw", &h, ROWS, 3);
+    h.space_length = SPACE;
+    add_refused("hub_held_add", &h, 47, 100, 6, 2);
+    withdraw_refused("hub_held_withdraw", &h, ROWS, 15);
+    withdrew("hub_held_withdraw", &h, 63, labels + 1);
+    h.space_length = SPACE - 1;
+    add_refused("hub_held_add", &h, 47, 100, 6, 3);
+    h.space_length = SPACE;
+    add_refused("hub_held_add", &h, 47, 100, 6, 6);
+    add_refused("hub_held_add", &h, 100, 48, 6, 6);
+    add_refused("hub_held_add", &h, 47, 48, 6, 7);
+    add_refused("hub_held_add", &h, 47, 48, 255, 7);
+    add_refused("hub_held_add", &h, 47, 48, 3, 8); /* row 47 has the same window and mark */
+    labels[ROWS - 1] = '2';
+    added("hub_held_add", &h, 47, 48, 5, labels);
+    end_group("refusals of held tables");
+}
+
+/* P4 with faults that no call leaves: mended one by one, a call looks at its own 2 or 15 first and then at all that the planner looks at. */
+static void held_faults(void)
+{
+    struct held h = begun("faults", 100, 0, 0);
+    added("faults", &h, 90, 10, 0, "1");
+    added("faults", &h, 10, 30, 0, "11");
+    added("faults", &h, 20, 40, 0, "112");
+    added("faults", &h, 25, 50, 0, "1120");
+    h.numbers.ticks = 1, h.numbers.gap = 601, h.starts[1] = 100, h.marks[2] = 6, h.marks[1] = h.marks[3] = 1;
+    h.labels[0] = 9, h.numbers.count = 1000; /* a refusal gives them back, and they make no difference */
+    for (unsigned step = 0; step < 6; step++) {
+        static const unsigned numbers[6] = {3, 4, 14, 6, 7, 8};
+        char what[60];
+        snprintf(what, sizeof what, "faults from %u on", numbers[step]);
+        h.space_length = step == 0 ? SPACE - 1 : SPACE;
+        if (step == 2)
+            h.numbers.ticks = 100;
+        if (step == 3)
+            h.numbers.gap = 0;
+        if (step == 4)
+            h.starts[1] = 10;
+        if (step == 5)
+            h.marks[2] = 1;
+        add_refused(what, &h, step < 5 ? 100 : 60, 70, 0, numbers[step]); /* the row's own 6 comes after the faults of the rows before it */
+        withdraw_refused(what, &h, 0, numbers[step]);
+        withdraw_refused(what, &h, 4, step == 0 ? 3 : 15);
+    }
+    h.marks[2] = 255;
+    withdrew("the row with the fault", &h, 2, "112");
+    h.numbers.rows = 1;
+    added("in the place of a row that is not counted", &h, 20, 40, 0, "11");
+    end_group("held tables with faults");
+}
+
+/* More rows than places. */
+static void held_too_many(void)
+{
+    static const size_t rows[3] = {65, 128, SIZE_MAX};
+    char ones[ROWS + 1];
+    struct held h = held_64(labels_of_many(false, ones));
+    for (size_t i = 0; i < 3; i++) {
+        h.numbers.rows = rows[i];
+        h.space_length = SPACE - 1;
+        add_refused("more than 64 rows", &h, 70, 71, 0, 2);
+        withdraw_refused("more than 64 rows", &h, 0, 3);
+        h.space_length = SPACE;
+        add_refused("more than 64 rows", &h, 70, 71, 0, 2);
+        withdraw_refused("more than 64 rows", &h, 0, 2);
+        withdraw_refused("more than 64 rows", &h, rows[i] - 1, 2);
+        withdraw_refused("more than 64 rows", &h, rows[i], 15);
+    }
+    h.numbers.rows = ROWS;
+    withdrew("64 rows", &h, 0, ones + 1);
+    end_group("held tables of too many rows");
+}
+
 int main(void)
 {
     constants();
@@ -1229,5 +1593,11 @@ int main(void)
     tick_refusals();
     player_limits();
     other_bytes();
+    held_begins();
+    held_examples();
+    held_limits();
+    held_refusals();
+    held_faults();
+    held_too_many();
     return all_failures != 0;
 }

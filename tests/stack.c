@@ -1,5 +1,6 @@
-/* Measures how many bytes of stack each function of include/hubplan.h uses, the most over three tables of 64 rows, with a gap of 60: one of which many rows are heard, one of
- * which few are, and one that is refused. Each call is made on a stack of its own that was filled with a pattern, and what a call that does nothing uses is taken off.
+/* Measures how many bytes of stack each function of the library uses, the most over three tables of 64 rows, with a gap of 60: one of which many rows are heard, one of
+ * which few are, and one that is refused. The last row of a table is added to the held table of the others, and row 0 is withdrawn from the held table of all. Each call is made on
+ * a stack of its own that was filled with a pattern, and what a call that does nothing uses is taken off.
  *
  *   gcc -std=c99 -O2 -Wall -Wextra -Wpedantic -Werror -Iinclude tests/stack.c target/staticlib/libhub_c.a -o target/stack && target/stack
  */
@@ -28,6 +29,19 @@ static void read_fleet(void) { hub_read_fleet(tape, tape_length, starts, 64, end
 static void reply(void) { hub_reply(tape, tape_length, out, sizeof out, space, sizeof space); }
 static void player_start(void) { hub_player_start(plan, plan_length, 0); }
 static void player_step(void) { hub_player_step(plan, plan_length, (struct hub_player){0}); }
+static void held_begin(void) { hub_held_begin(43200, 60); }
+
+static void held_add(void)
+{
+    struct hub_held_numbers numbers = {43200, 60, rows - 1, 0};
+    hub_held_add(numbers, starts, 64, ends, 64, marks, 64, labels, 64, starts[rows - 1], ends[rows - 1], marks[rows - 1], space, sizeof space);
+}
+
+static void held_withdraw(void)
+{
+    struct hub_held_numbers numbers = {43200, 60, rows, 0};
+    hub_held_withdraw(numbers, starts, 64, ends, 64, marks, 64, labels, 64, 0, space, sizeof space);
+}
 
 /* Plans the table and writes the plan tape; none where the table is refused. */
 static void make_plan_tape(void)
@@ -74,7 +88,8 @@ int main(void)
     static const struct { const char *name; void (*call)(void); } calls[] = {
         {"hub_plan_round", plan_round}, {"hub_plan_run", plan_run}, {"hub_write_plan_round", write_round},
         {"hub_write_plan_run", write_run}, {"hub_read_fleet", read_fleet}, {"hub_reply", reply},
-        {"hub_player_start", player_start}, {"hub_player_step", player_step}};
+        {"hub_player_start", player_start}, {"hub_player_step", player_step}, {"hub_held_begin", held_begin},
+        {"hub_held_add", held_add}, {"hub_held_withdraw", held_withdraw}};
     static const unsigned tables[3][3] = {{600, 900, 0}, {1, 40000, 1}, {600, 900, 6}};
     size_t base = depth_of(nothing);
     for (size_t c = 0; c < sizeof calls / sizeof *calls; c++) {

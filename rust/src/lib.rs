@@ -4,9 +4,13 @@
 //! addresses and lengths, and Rust's borrow rules see to it that the lists of one call do not overlap.
 
 pub mod first_free;
+pub mod held;
 pub mod player_port;
 pub mod port;
 pub mod tables;
+
+/// The most rows of a table, and the places of each list of a held table.
+pub const MAX_ROWS: usize = 64;
 
 /// The working space that the planner needs and clears, in bytes.
 pub const SPACE_BYTES: usize = 16_384;
@@ -57,6 +61,7 @@ pub enum Refusal {
     Tape = 12,
     FirstTick = 13,
     Gap = 14,
+    NoRow = 15,
 }
 
 impl Refusal {
@@ -79,7 +84,8 @@ impl Refusal {
             11 => Refusal::Form,
             12 => Refusal::Tape,
             13 => Refusal::FirstTick,
-            _ => Refusal::Gap,
+            14 => Refusal::Gap,
+            _ => Refusal::NoRow,
         }
     }
 }
@@ -125,6 +131,8 @@ pub struct Stepped {
 }
 
 mod c {
+    use crate::held::Numbers;
+
     #[repr(C)]
     pub struct HubAnswer {
         pub refusal: u8,
@@ -167,6 +175,19 @@ mod c {
         pub receiver1: HubReceiver,
         pub receiver2: HubReceiver,
         pub player: HubPlayer,
+    }
+
+    #[repr(C)]
+    pub struct HubHeldBegun {
+        pub refusal: u8,
+        pub numbers: Numbers,
+    }
+
+    #[repr(C)]
+    pub struct HubHeldChange {
+        pub refusal: u8,
+        pub count: usize,
+        pub numbers: Numbers,
     }
 
     extern "C" {
@@ -247,6 +268,37 @@ mod c {
         pub fn hub_reply(tape: *const u8, tape_length: usize, out: *mut u8, out_length: usize, space: *mut u8, space_length: usize) -> usize;
         pub fn hub_player_start(tape: *const u8, tape_length: usize, first: u16) -> HubStarted;
         pub fn hub_player_step(tape: *const u8, tape_length: usize, player: HubPlayer) -> HubStepped;
+        pub fn hub_held_begin(ticks: u16, gap: u16) -> HubHeldBegun;
+        pub fn hub_held_add(
+            numbers: Numbers,
+            starts: *mut u16,
+            starts_length: usize,
+            ends: *mut u16,
+            ends_length: usize,
+            marks: *mut u8,
+            marks_length: usize,
+            labels: *mut u8,
+            labels_length: usize,
+            start: u16,
+            end: u16,
+            mark: u8,
+            space: *mut u8,
+            space_length: usize,
+        ) -> HubHeldChange;
+        pub fn hub_held_withdraw(
+            numbers: Numbers,
+            starts: *mut u16,
+            starts_length: usize,
+            ends: *mut u16,
+            ends_length: usize,
+            marks: *mut u8,
+            marks_length: usize,
+            labels: *mut u8,
+            labels_length: usize,
+            row: usize,
+            space: *mut u8,
+            space_length: usize,
+        ) -> HubHeldChange;
     }
 }
 

@@ -1,4 +1,4 @@
--- Believed: How an answer, a report, the receivers' open hours, a player and what it tells are handed over to C: by numbers alone.
+-- Believed: How an answer, a report, the receivers' open hours, a player and what it tells, and a held table are handed over to C: by numbers alone.
 use mathlib.Core.Bool.{Bool, true, false}
 use Prim.Native.Nat.{ℕ}
 use mathlib.Core.List.{List}
@@ -16,12 +16,18 @@ use Rattle.player.specs.declared.Receiver.the-variants.{Idle, Listening}
 use Rattle.player.specs.declared.Player.{Player}
 use Rattle.player.specs.declared.Started.{Started}
 use Rattle.player.specs.declared.Stepped.{Stepped}
+use Rattle.held_table.specs.declared.Numbers.{Numbers}
+use Rattle.held_table.specs.declared.Begun.{Begun}
+use Rattle.held_table.specs.Held.{HeldCall}
 use Rattle.hub_c.specs.declared.HubAnswer.{HubAnswer}
 use Rattle.hub_c.specs.declared.HubPlayer.{HubPlayer}
 use Rattle.hub_c.specs.declared.HubStarted.{HubStarted}
 use Rattle.hub_c.specs.declared.HubReceiver.{HubReceiver}
 use Rattle.hub_c.specs.declared.HubStepped.{HubStepped}
 use Rattle.hub_c.specs.declared.HubReport.{HubReport}
+use Rattle.hub_c.specs.declared.HubHeldNumbers.{HubHeldNumbers}
+use Rattle.hub_c.specs.declared.HubHeldBegun.{HubHeldBegun}
+use Rattle.hub_c.specs.declared.HubHeldChange.{HubHeldChange}
 
 -- the refusal by its number in the papers, 0 for accepted, and the count
 abbrev pub handed : Answer → HubAnswer
@@ -102,3 +108,34 @@ handedStepped s =
       receiver2 = handedReceiver (s .state .receiver2);
       player = handedPlayer (s .player);
     }
+
+-- ---- a held table
+
+abbrev pub handedNumbers : Numbers → HubHeldNumbers
+handedNumbers n = record { ticks = n .ticks; gap = n .gap; rows = n .rows; count = n .count }
+
+-- as C hands them in
+abbrev pub numbersFrom : HubHeldNumbers → Numbers
+numbersFrom n = record { ticks = n .ticks; gap = n .gap; rows = n .rows; count = n .count }
+
+abbrev pub handedBegun : Begun → HubHeldBegun
+handedBegun b = record { refusal = numberOf (b .refusal); numbers = handedNumbers (b .numbers) }
+
+-- what a change of a held table gives to C
+pub record HubHeldCall : Type 0 where
+  pub change : HubHeldChange
+  pub starts : List ℕ
+  pub ends : List ℕ
+  pub marks : List ℕ
+  pub labels : List ℕ
+  pub space : List ℕ
+
+abbrev pub heldGave : HubHeldChange → List ℕ → List ℕ → List ℕ → List ℕ → List ℕ → HubHeldCall
+heldGave change starts ends marks labels space = record { change = change; starts = starts; ends = ends; marks = marks; labels = labels; space = space }
+
+abbrev pub handedChange : Answer → Numbers → HubHeldChange
+handedChange a n = record { refusal = numberOf (a .refusal); count = a .count; numbers = handedNumbers n }
+
+abbrev pub handedHeld : HeldCall → HubHeldCall
+handedHeld c =
+    heldGave (handedChange (c .answer) (c .held .numbers)) (c .held .starts) (c .held .ends) (c .held .marks) (c .held .labels) (c .space)

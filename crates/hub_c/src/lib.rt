@@ -9,14 +9,19 @@ ghost use Rattle.plan_tape.specs.Written.{written};
 ghost use Rattle.fleet_tape.specs.Reading.{fleetRead};
 ghost use Rattle.player.specs.Played.{playerAt, stepped, started};
 ghost use Rattle.reply.specs.Replied.{replying, replied};
-ghost use Rattle.hub_c.specs.Handed.{handed, isRun, handedReport, planGave, handedPlan, tapeGave, handedTape, readGave, handedRead, handedPlayer, handedReceiver, handedStarted, handedStepped};
+ghost use Rattle.hub_c.specs.Handed.{handed, isRun, handedReport, planGave, handedPlan, tapeGave, handedTape, readGave, handedRead, handedPlayer, handedReceiver, handedStarted, handedStepped, handedNumbers, numbersFrom, handedBegun, handedChange, heldGave, handedHeld};
+ghost use Rattle.held_table.specs.Held.{kept, begun, addCall, withdrawCall};
+ghost use Rattle.window.specs.Rows.{row};
 ghost use Rattle.window.specs.Hours.{hoursFrom, noHours};
 use fleet_tape::Report;
+use held_table::Changed;
+use held_table::Numbers;
 use player::Player;
 use player::Receiver;
 use refusals::Answer;
 use table::Setting;
 use window::Kind;
+use window::Row;
 
 // What a call reports: the refusal's number in the papers, 0 for accepted, and the count, 0 on a refusal.
 #[repr(C)]
@@ -68,6 +73,30 @@ pub struct HubStepped {
     pub player: HubPlayer,
 }
 
+// The numbers of a held table: R and g of its round, how many rows it has, and how many of them its plan hears.
+#[repr(C)]
+pub struct HubHeldNumbers {
+    pub ticks: u16,
+    pub gap: u16,
+    pub rows: usize,
+    pub count: usize,
+}
+
+// What a begin of a held table gives: the refusal's number, and the numbers of an empty table.
+#[repr(C)]
+pub struct HubHeldBegun {
+    pub refusal: u8,
+    pub numbers: HubHeldNumbers,
+}
+
+// What a change of a held table gives: the refusal's number and the count, 0 on a refusal, and the numbers of what is then held.
+#[repr(C)]
+pub struct HubHeldChange {
+    pub refusal: u8,
+    pub count: usize,
+    pub numbers: HubHeldNumbers,
+}
+
 // An answer by its numbers.
 fn hand_over(answer: Answer) -> HubAnswer
     ensures { λ r. ⌜ r ≡ handed answer ⌝ }
@@ -77,13 +106,6 @@ fn hand_over(answer: Answer) -> HubAnswer
         refusal: refusals::number(refusal),
         count: answer.count,
     }
-}
-
-// The setting of a round with a gap, in which hours are neither checked nor used.
-fn round_setting(ticks: u16, gap: u16) -> Setting
-    ensures { λ r. ⌜ r ≡ settingOf Round ticks gap noHours ⌝ }
-{
-    table::setting_of(Kind::Round, ticks, gap, [[0, 0], [0, 0]])
 }
 
 // The setting of a run with a gap in which receiver 1 is open from p1 to q1 and receiver 2 from p2 to q2.
@@ -121,7 +143,7 @@ pub extern "C" fn hub_plan_round(
 ) -> HubAnswer
     ensures { λ r. ⌜ planGave r (now (labels .exit)) (now (space .exit)) ≡ handedPlan (planCall (table (settingOf Round ticks gap noHours) (now (starts .entry)) (now (ends .entry)) (now (marks .entry))) (now (labels .entry)) (now (space .entry))) ⌝ }
 {
-    let setting = round_setting(ticks, gap);
+    let setting = table::round_setting(ticks, gap);
     plan(setting, starts, ends, marks, labels, space)
 }
 
@@ -174,7 +196,7 @@ pub extern "C" fn hub_write_plan_round(
 ) -> HubAnswer
     ensures { λ r. ⌜ tapeGave r (now (tape .exit)) ≡ handedTape (written (table (settingOf Round ticks gap noHours) (now (starts .entry)) (now (ends .entry)) (now (marks .entry))) (now (labels .entry)) (now (tape .entry))) ⌝ }
 {
-    let setting = round_setting(ticks, gap);
+    let setting = table::round_setting(ticks, gap);
     write_plan(setting, starts, ends, marks, labels, tape)
 }
 
@@ -308,4 +330,93 @@ pub extern "C" fn hub_player_step(tape: &[u8], player: HubPlayer) -> HubStepped
         receiver2,
         player: moved,
     }
+}
+
+// The numbers of a held table, handed over to C and in from C.
+fn hand_over_numbers(numbers: Numbers) -> HubHeldNumbers
+    ensures { λ r. ⌜ r ≡ handedNumbers numbers ⌝ }
+{
+    HubHeldNumbers {
+        ticks: numbers.ticks,
+        gap: numbers.gap,
+        rows: numbers.rows,
+        count: numbers.count,
+    }
+}
+
+fn numbers_from(numbers: HubHeldNumbers) -> Numbers
+    ensures { λ r. ⌜ r ≡ numbersFrom numbers ⌝ }
+{
+    Numbers {
+        ticks: numbers.ticks,
+        gap: numbers.gap,
+        rows: numbers.rows,
+        count: numbers.count,
+    }
+}
+
+// A change of a held table by its numbers.
+fn hand_over_change(changed: Changed) -> HubHeldChange
+    ensures { λ r. ⌜ r ≡ handedChange (changed .answer) (changed .numbers) ⌝ }
+{
+    let handed = hand_over(changed.answer);
+    let numbers = hand_over_numbers(changed.numbers);
+    HubHeldChange {
+        refusal: handed.refusal,
+        count: handed.count,
+        numbers,
+    }
+}
+
+// Begins a held table of a round with a gap.
+#[no_mangle]
+pub extern "C" fn hub_held_begin(ticks: u16, gap: u16) -> HubHeldBegun
+    ensures { λ r. ⌜ r ≡ handedBegun (begun ticks gap) ⌝ }
+{
+    let begun = held_table::begin(ticks, gap);
+    let refusal = begun.refusal;
+    let numbers = hand_over_numbers(begun.numbers);
+    HubHeldBegun {
+        refusal: refusals::number(refusal),
+        numbers,
+    }
+}
+
+// Adds a row to a held table, at the end.
+#[no_mangle]
+pub extern "C" fn hub_held_add(
+    numbers: HubHeldNumbers,
+    starts: &mut [u16],
+    ends: &mut [u16],
+    marks: &mut [u8],
+    labels: &mut [u8],
+    start: u16,
+    end: u16,
+    mark: u8,
+    space: &mut [u8],
+) -> HubHeldChange
+    ensures { λ r. ⌜ heldGave r (now (starts .exit)) (now (ends .exit)) (now (marks .exit)) (now (labels .exit)) (now (space .exit)) ≡ handedHeld (addCall (kept (numbersFrom numbers) (now (starts .entry)) (now (ends .entry)) (now (marks .entry)) (now (labels .entry))) (row start end mark) (now (space .entry))) ⌝ }
+{
+    let from = numbers_from(numbers);
+    let row = Row { start, end, mark };
+    let changed = held_table::add(from, starts, ends, marks, labels, row, space);
+    hand_over_change(changed)
+}
+
+// Withdraws a row of a held table; later rows move up one.
+#[no_mangle]
+pub extern "C" fn hub_held_withdraw(
+    numbers: HubHeldNumbers,
+    starts: &mut [u16],
+    ends: &mut [u16],
+    marks: &mut [u8],
+    labels: &mut [u8],
+    row: usize,
+    space: &mut [u8],
+) -> HubHeldChange
+    ensures { λ r. ⌜ heldGave r (now (starts .exit)) (now (ends .exit)) (now (marks .exit)) (now (labels .exit)) (now (space .exit)) ≡ handedHeld (withdrawCall (kept (numbersFrom numbers) (now (starts .entry)) (now (ends .entry)) (now (marks .entry)) (now (labels .entry))) row (now (space .entry))) ⌝ }
+{
+    let from = numbers_from(numbers);
+    let changed = held_table::withdraw(from, starts, ends, marks, labels, row, space);
+    hand_over_change(changed)
 }

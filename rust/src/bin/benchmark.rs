@@ -1,6 +1,7 @@
 //! The benchmark: `cargo run --release --bin benchmark` prints every table of docs/BENCHMARKS.md. Times are processor time of this thread, or of the child process for
 //! glpsol, so that other work on the machine counts as little as possible.
 
+use hubplan::held::{HeldTable, Row};
 use hubplan::tables::{benchmark_tables, deep, in_turn, Planner, Table, DAY};
 use hubplan::{first_free, player_port, port, Kind, Player, Refusal, Stepped, PLAN_TAPE_BYTES, SPACE_BYTES};
 use std::fmt::Write as _;
@@ -416,6 +417,91 @@ fn players(folder: &Path) {
     );
 }
 
+/// A held table of the first rows of a round that has a plan, so each of its additions is accepted.
+fn held_of(table: &Table, rows: usize) -> HeldTable {
+    let (mut held, begun) = HeldTable::begin(table.ticks, table.gap);
+    begun.expect("R and gap of a table that has a plan");
+    for i in 0..rows {
+        held.add(row_of(table, i), &mut vec![0; SPACE_BYTES]).expect("a plan");
+    }
+    held
+}
+
+fn row_of(table: &Table, i: usize) -> Row {
+    Row {
+        start: table.starts[i],
+        end: table.ends[i],
+        mark: table.marks[i],
+    }
+}
+
+/// The rows of a held table, for the port.
+fn table_of(held: &HeldTable) -> Table {
+    Table {
+        starts: held.starts().to_vec(),
+        ends: held.ends().to_vec(),
+        marks: held.marks().to_vec(),
+        ..Table::empty(Kind::Round, held.numbers().ticks).with_gap(held.numbers().gap)
+    }
+}
+
+type Change<'a> = &'a dyn Fn(&mut HeldTable, &mut [u8]) -> Result<usize, Refusal>;
+
+/// A line of the table: the time of a change, made of a copy each time, and those of the planner and the port for the whole table that is held then. The plans must agree.
+fn held_line(name: &str, what: &str, held: &HeldTable, change: Change) {
+    let mut space = vec![0; SPACE_BYTES];
+    let mut changed = held.clone();
+    let answer = change(&mut changed, &mut space);
+    let table = table_of(&changed);
+    let (mut labels, mut port_labels) = (vec![0; table.rows()], vec![0; table.rows()]);
+    let (mut plan_space, mut port_space) = (space.clone(), space.clone());
+    assert_eq!(answer, table.plan(port::plan, &mut port_labels, &mut port_space));
+    assert_eq!(changed.labels(), port_labels);
+    let mut change_call = || {
+        let mut copy = black_box(held).clone();
+        let _ = black_box(change(&mut copy, &mut space));
+        black_box(&copy);
+    };
+    let mut plan_call = || {
+        let _ = black_box(black_box(&table).plan(hubplan::plan, &mut labels, &mut plan_space));
+    };
+    let mut port_call = || {
+        let _ = black_box(black_box(&table).plan(port::plan, &mut port_labels, &mut port_space));
+    };
+    let times = measure(&mut [&mut change_call, &mut plan_call, &mut port_call], 21);
+    let ratio = |i: usize| times[0].median / times[i].median;
+    println!(
+        "| {name} | {what} | {} | {} | {:.2} | {} | {:.2} |",
+        times[0].words(),
+        times[1].words(),
+        ratio(1),
+        times[2].words(),
+        ratio(2)
+    );
+}
+
+fn held_tables() {
+    println!("\n## Held tables\n");
+    println!(
+        "A change in microseconds of processor time, beside the planner's and the hand port's for planning the whole table that is held then: the median of \
+         repeated runs (lower to upper quartile).\n"
+    );
+    println!("| table | change | held table | planner | held table / planner | hand port | held table / port |");
+    println!("|---|---|---|---|---|---|---|");
+    for (name, table) in benchmark_tables() {
+        let has_plan = table.plan(hubplan::plan, &mut [0; 64], &mut vec![0; SPACE_BYTES]).is_ok();
+        if table.kind != Kind::Round || !has_plan {
+            continue;
+        }
+        held_line(name, "row 0 of 64 withdrawn", &held_of(&table, 64), &|held, space| {
+            held.withdraw(0, space)
+        });
+        held_line(name, "64th row added", &held_of(&table, 63), &|held, space| {
+            held.add(row_of(&table, 63), space)
+        });
+    }
+}
+
 fn main() {
     let words: Vec<String> = env::args().skip(1).collect();
     let words: Vec<&str> = words.iter().map(String::as_str).collect();
@@ -426,9 +512,9 @@ fn main() {
         ["day", "port"] => return one_day(player_port::step, &player_tape()),
         ["start", "player"] => return one_start(hubplan::start, &player_tape()),
         ["start", "port"] => return one_start(player_port::start, &player_tape()),
-        [] | ["player"] => {}
+        [] | ["held"] | ["player"] => {}
         _ => {
-            eprintln!("usage: benchmark [player | one NUMBER planner|port | day player|port | start player|port]");
+            eprintln!("usage: benchmark [held | player | one NUMBER planner|port | day player|port | start player|port]");
             std::process::exit(2);
         }
     }
@@ -439,6 +525,11 @@ fn main() {
         growth();
         instructions(&folder);
     }
-    players(&folder);
+    if words != ["player"] {
+        held_tables();
+    }
+    if words != ["held"] {
+        players(&folder);
+    }
     fs::remove_dir_all(&folder).expect("the folder goes");
 }
