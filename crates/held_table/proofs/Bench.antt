@@ -9,6 +9,7 @@ use Rattle.refusals.specs.declared.Refusal.{Refusal}
 use Rattle.refusals.specs.declared.Refusal.the-variants.{Accepted, Lists, Rows, Space, Ticks, Gap, Window, Mark, NoPlan, NoRow}
 use Rattle.refusals.specs.Refusals.{answered}
 use Rattle.held_table.specs.Held.{HeldTable, numbersOf, kept, empty, begun, Change, change, added, withdrawn}
+use Rattle.held_table.specs.Came.{HasPlaces, Came, from-begin, from-add, from-withdraw}
 
 -- 64 places that begin so
 abbrev places : List ℕ → ℕ → List ℕ
@@ -102,6 +103,31 @@ pub gaps :
     × Plans 2 (held 20 4 2 2 (0 ∷ 8 ∷ []) (5 ∷ 17 ∷ []) (0 ∷ 0 ∷ []) (1 ∷ 2 ∷ [])) (added (held 20 4 1 1 (0 ∷ []) (5 ∷ []) (0 ∷ []) (1 ∷ [])) (row 8 17 0) 16384)
 unfolding added
 gaps = (refl, refl)
+
+-- ---- "held tables that came from these calls"
+
+begun-places : (R g : ℕ) → HasPlaces (kept (begun R g .numbers) (places [] 7777) (places [] 8888) (places [] 77) (places [] 9))
+begun-places R g = record { rows-64 = record { starts-64 = refl; ends-64 = refl; marks-64 = refl }; labels-64 = refl }
+
+-- a begin; four additions; a refused one and a withdrawal after them; and an addition after a begin that is refused
+pub came :
+    Came h0
+    × Came h4
+    × Came (held 100 0 3 2 (10 ∷ 20 ∷ 25 ∷ 90 ∷ []) (30 ∷ 40 ∷ 50 ∷ 10 ∷ []) (0 ∷ 0 ∷ 1 ∷ 0 ∷ []) (1 ∷ 0 ∷ 2 ∷ 1 ∷ []))
+    × Came (held 2 0 1 1 (0 ∷ []) (1 ∷ []) (0 ∷ []) (1 ∷ []))
+unfolding begun added withdrawn without
+came = (
+  from-0,
+  from-4,
+  from-withdraw (from-add from-4 (row 60 70 0) 16383) 3 16384,
+  from-add (from-begin 1 601 (begun-places 1 601)) (row 0 1 0) 16384,
+)
+  where
+    from-0 : Came h0
+    from-0 = from-begin 100 0 (begun-places 100 0)
+
+    from-4 : Came h4
+    from-4 = from-add (from-add (from-add (from-add from-0 (row 10 30 0) 16384) (row 20 40 0) 16384) (row 25 50 1) 16384) (row 90 10 0) 16384
 
 -- ---- lists of other than 64 places: 1, before anything else
 
