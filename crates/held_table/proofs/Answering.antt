@@ -10,6 +10,7 @@ use lib.Dec.{leb, ltb, eqb}
 use lib.ListN.{length}
 use Rattle.basics.specs.Limits.{maxRows, hasPlaces}
 use Rattle.basics.proofs.Tests.{eqb-iff, and-iff}
+use Rattle.basics.proofs.Places.{places-iff}
 use Rattle.window.specs.declared.Row.{Row}
 use Rattle.refusals.specs.declared.Refusal.{Refusal}
 use Rattle.refusals.specs.declared.Refusal.the-variants.{Lists, Rows, Space, NoRow}
@@ -61,17 +62,17 @@ withdraw-8 starts ends marks labels space rows k =
 abbrev pub placesFirst : HeldTable → Refusal
 placesFirst h = placesRefusal (length (h .starts)) (length (h .ends)) (length (h .marks)) (length (h .labels))
 
-pub places-iff : (h : HeldTable) → Passed (placesFirst h) ↔ HasPlaces h
+pub has-places-iff : (h : HeldTable) → Passed (placesFirst h) ↔ HasPlaces h
 unfolding placesRefusal
-places-iff h =
+has-places-iff h =
     let a = length (h .starts) in
     let b = length (h .ends) in
     let c = length (h .marks) in
     let d = length (h .labels) in
     let x = hasPlaces a b c && eqb d maxRows in
-    let test = and-iff (and-iff (and-iff (eqb-iff a maxRows) (eqb-iff b maxRows)) (eqb-iff c maxRows)) (eqb-iff d maxRows) in (
-      λ p. let f = test .0 (asked-passed x Lists (omega arith) p) in record { rows-64 = record { starts-64 = f .0 .0 .0; ends-64 = f .0 .0 .1; marks-64 = f .0 .1 }; labels-64 = f .1 },
-      λ p. asked-passes x Lists (test .1 (((p .rows-64 .starts-64, p .rows-64 .ends-64), p .rows-64 .marks-64), p .labels-64)),
+    let test = and-iff (places-iff (h .starts) (h .ends) (h .marks)) (eqb-iff d maxRows) in (
+      λ p. let f = test .0 (asked-passed x Lists (omega arith) p) in record { rows-64 = f .0; labels-64 = f .1 },
+      λ p. asked-passes x Lists (test .1 (p .rows-64, p .labels-64)),
     )
 
 pub room-for : (h : HeldTable) → Passed (addFirst h) → RoomFor h
@@ -79,7 +80,7 @@ unfolding addChecked
 room-for h p =
     let room = ltb (h .numbers .rows) maxRows in
     let f = then-passed (placesFirst h) (asked room Rows) p in
-    record { places = places-iff h .0 (f .0); below = ltb-true (h .numbers .rows) maxRows (asked-passed room Rows (omega arith) (f .1)) }
+    record { places = has-places-iff h .0 (f .0); below = ltb-true (h .numbers .rows) maxRows (asked-passed room Rows (omega arith) (f .1)) }
 
 pub row-held : (h : HeldTable) (space k : ℕ) → Passed (withdrawFirst h k space) → RowHeld h k
 unfolding withdrawChecked
@@ -89,7 +90,7 @@ row-held h space k p =
     let f = then-passed (placesFirst h) (spaceRefusal space then asked known NoRow then asked most Rows) p in
     let g = then-passed (asked known NoRow) (asked most Rows) (then-passed (spaceRefusal space) (asked known NoRow then asked most Rows) (f .1) .1) in
     record {
-      places = places-iff h .0 (f .0);
+      places = has-places-iff h .0 (f .0);
       below = ltb-true k (h .numbers .rows) (asked-passed known NoRow (omega arith) (g .0));
       most = leb-true (h .numbers .rows) maxRows (asked-passed most Rows (omega arith) (g .1));
     }

@@ -20,7 +20,7 @@ use Rattle.table.specs.Changes.{withRow, withoutRow}
 use Rattle.table.proofs.Changes.{rows-with, planned-with, rows-without, planned-without}
 use Rattle.held_table.specs.Held.{HeldTable, heldTable, heldPlan, addChecked, withdrawChecked, addFirst, withdrawFirst, added, withdrawn}
 use Rattle.held_table.specs.Came.{addRefusal, withdrawRefusal}
-use Rattle.held_table.proofs.Answering.{placesFirst, places-iff}
+use Rattle.held_table.proofs.Answering.{placesFirst, has-places-iff}
 use Rattle.held_table.proofs.Right.{Right, rows-held, right-looked, plan-held, Kept, changed-kept}
 
 -- ---- an addition
@@ -37,7 +37,7 @@ module _ (h : HeldTable) (right : Right h) (new : Row) (space : ℕ) where
       let rest = planned (withRow t new) (take (rows (withRow t new)) (h .labels)) space .answer .refusal in
       let room = asked (ltb (h .numbers .rows) maxRows) Rows in
       then-assoc places room rest
-      ∙ sym (then-next {a = places} {r = places} refl (places-iff h .1 (right .places)) refl)
+      ∙ sym (then-next {a = places} {r = places} refl (has-places-iff h .1 (right .places)) refl)
       ∙ go (ltb (h .numbers .rows) maxRows) refl
     where
       go : (x : Bool) → ltb (h .numbers .rows) maxRows ≡ x
@@ -65,7 +65,7 @@ module _ (h : HeldTable) (right : Right h) (k space : ℕ) where
       let known = asked (ltb k (h .numbers .rows)) NoRow in
       let most = asked (leb (h .numbers .rows) maxRows) Rows in
       then-assoc places (spaceRefusal space then known then most) end
-      ∙ sym (then-next {a = places} {r = places} refl (places-iff h .1 (right .places)) refl)
+      ∙ sym (then-next {a = places} {r = places} refl (has-places-iff h .1 (right .places)) refl)
       ∙ then-assoc (spaceRefusal space) (known then most) end
       ∙ spaced (passes (spaceRefusal space)) refl
     where

@@ -5,7 +5,7 @@ use mathlib.Core.Bool.{Bool, true, false, not}
 use native.Mathlib.Omega.{arith}
 use borrow.Author.Tests.{not-true, not-false}
 use Rattle.tape.specs.Commands.{ROUND, RUN, operandBytes}
-use Rattle.basics.proofs.Places.{places-of}
+use Rattle.basics.proofs.Places.{places-iff}
 use Rattle.fleet_tape.proofs.Judged.{reading-same, ticks-fit, hours-fit, read-unplaced, read-round, read-neither, read-no-hours, read-run}
 use borrow.Author.Needs.{needs}
 use Rattle.fleet_tape.proofs.read_tape.Statement.{statement}
@@ -51,7 +51,7 @@ read-rows-requires : tie.Need-read-rows-requires
 read-rows-requires c κs =
     let p = c .before .before .before .before .before .before .before in
     let a = p .before .before .before .before .before .before .args in
-    places-of (a .starts .now) (a .ends .now) (a .marks .now) (kept (p .before .has-places .ensures) (p .if1 .left))
+    places-iff (a .starts .now) (a .ends .now) (a .marks .now) .0 (kept (p .before .has-places .ensures) (p .if1 .left))
 
 same-length : tie.Need-same-length
 same-length c = search needs
@@ -138,7 +138,7 @@ read-rows-requires-2 : tie.Need-read-rows-requires-2
 read-rows-requires-2 c κs =
     let p = c .before .before .before .before .before .before .before .before .before .before .before .before .before in
     let a = p .before .before .before .before .before .before .args in
-    places-of (a .starts .now) (a .ends .now) (a .marks .now) (kept (p .before .has-places .ensures) (p .if1 .left))
+    places-iff (a .starts .now) (a .ends .now) (a .marks .now) .0 (kept (p .before .has-places .ensures) (p .if1 .left))
 
 same-length-4 : tie.Need-same-length-4
 same-length-4 c = search needs
