@@ -3,6 +3,7 @@
 //! What each function promises is proved of the function that it calls (crates/hub_c). Here only slices are taken apart into
 //! addresses and lengths, and Rust's borrow rules see to it that the lists of one call do not overlap.
 
+pub mod distance;
 pub mod first_free;
 pub mod held;
 pub mod player_port;

@@ -1,6 +1,7 @@
 //! The player's step once more, by hand in plain Rust and unproved: what the proved step's time is measured against. It is the same walk, once over the tape; the start is
 //! the plain one of a program that need not be proved, with one pass where the proved start compares each LISTEN with all others.
 
+use crate::distance::{Distance, Sums};
 use crate::{Player, Receiver, Refusal, Stepped};
 
 struct Listen {
@@ -34,29 +35,20 @@ fn is_window(run: bool, ticks: u16, start: u16, end: u16) -> bool {
     }
 }
 
-/// How far a tick lies after another, if both are below `ticks`.
-fn distance(ticks: u16, from: u16, to: u16) -> u16 {
-    let ahead = to.wrapping_sub(from);
-    if from <= to {
-        ahead
-    } else {
-        ahead.wrapping_add(ticks)
-    }
-}
-
-/// Whether a window covers a tick, if it breaks no rule; one that ends at its start covers every tick.
-fn covers(ticks: u16, start: u16, end: u16, tick: u16) -> bool {
-    start == end || distance(ticks, start, tick) < distance(ticks, start, end)
+/// Whether a window covers a tick, if it breaks no rule; one that ends at its start covers every tick. A run's can end at R, which is no tick.
+fn covers<D: Distance>(run: bool, ticks: u16, start: u16, end: u16, tick: u16) -> bool {
+    let length = if run { end.wrapping_sub(start) } else { D::between(ticks, start, end) };
+    start == end || D::between(ticks, start, tick) < length
 }
 
 /// What the LISTENs of the receiver with which the bytes begin tell at a tick, and the bytes after them.
-fn told(run: bool, ticks: u16, tick: u16, bytes: &[u8]) -> (Receiver, &[u8]) {
+fn told<D: Distance>(run: bool, ticks: u16, tick: u16, bytes: &[u8]) -> (Receiver, &[u8]) {
     let [0x20, _, rest @ ..] = bytes else {
         return (Receiver::Idle, bytes);
     };
     let (mut receiver, mut rest) = (Receiver::Idle, rest);
     while let Some((Listen { row, start, end }, after)) = listen(rest) {
-        if covers(ticks, start, end, tick) && is_window(run, ticks, start, end) {
+        if covers::<D>(run, ticks, start, end, tick) && is_window(run, ticks, start, end) {
             receiver = Receiver::Listening { row, until: end };
         }
         rest = after;
@@ -65,13 +57,18 @@ fn told(run: bool, ticks: u16, tick: u16, bytes: &[u8]) -> (Receiver, &[u8]) {
 }
 
 /// The same promise as `crate::step`, unproved.
-#[inline(never)]
 pub fn step(tape: &[u8], player: Player) -> Stepped {
+    step_by::<Sums>(tape, player)
+}
+
+/// The same with distances worked out in a way of one's own.
+#[inline(never)]
+pub fn step_by<D: Distance>(tape: &[u8], player: Player) -> Stepped {
     let Some((run, ticks, rest)) = head(tape).filter(|&(_, ticks, _)| player.tick < ticks) else {
         return Stepped { receivers: None, player };
     };
-    let (receiver1, rest) = told(run, ticks, player.tick, rest);
-    let (receiver2, _) = told(run, ticks, player.tick, rest);
+    let (receiver1, rest) = told::<D>(run, ticks, player.tick, rest);
+    let (receiver2, _) = told::<D>(run, ticks, player.tick, rest);
     let next = player.tick + 1;
     let tick = if next == ticks && !run { 0 } else { next };
     Stepped {

@@ -4,6 +4,7 @@ mod held;
 mod papers;
 mod player;
 
+use hubplan::distance::Remainder;
 use hubplan::tables::{benchmark_tables, long_arcs, Planner, Sequence, Table};
 use hubplan::{first_free, mark, port, Kind, Player, Refusal, FLEET_TAPE_BYTES, MAX_GAP, PLAN_TAPE_BYTES, REPLY_BYTES, SPACE_BYTES};
 
@@ -287,6 +288,7 @@ fn benchmark_tables_against_the_search() {
         let right = right_plan(&table, 64, SPACE_BYTES);
         compare_plan(hubplan::plan, &table, 64, SPACE_BYTES, &right);
         compare_plan(port::plan, &table, 64, SPACE_BYTES, &right);
+        compare_plan(port::plan_by::<Remainder>, &table, 64, SPACE_BYTES, &right);
     }
 }
 

@@ -17,3 +17,7 @@ module _ (R s t : ℕ) (h : Ticks R s t) where
   pub distance-before : t < s → t + (R - s) ≡ distance R s t
   unfolding distance
   distance-before l = let e : (t + R - s) % R ≡ t + R - s = mod-eq-of-lt (omega arith) in omega arith
+
+  -- no number on the way to it is R or more
+  pub sum-below : t < s → t + (R - s) < R
+  sum-below l = omega (arith, h .start-below)

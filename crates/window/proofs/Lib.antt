@@ -3,3 +3,4 @@ pub mod Circle
 pub mod Meaning
 pub mod AllDay
 pub mod Gaps
+pub mod Request6

@@ -23,12 +23,13 @@ pub struct Row {
     pub mark: u8,
 }
 
-// How far `tick` lies after `start` on a circle of `ticks` ticks: a comparison and at most two sums, no division.
+// "how far a tick lies after a window's start", on a circle of `ticks` ticks: "a comparison and at most two additions or subtractions", without division or remainder. The brackets
+// keep the sum within 16 bits, where the tick plus R need not be.
 pub fn distance(ticks: u16, start: u16, tick: u16) -> u16
     requires { ⌜ Ticks ticks start tick ⌝ }
     ensures { λ r. ⌜ r ≡ distance ticks start tick ⌝ }
 {
-    if start <= tick {
+    if tick >= start {
         tick - start
     } else {
         tick + (ticks - start)

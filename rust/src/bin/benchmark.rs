@@ -1,6 +1,7 @@
 //! The benchmark: `cargo run --release --bin benchmark` prints every table of docs/BENCHMARKS.md. Times are processor time of this thread, or of the child process for
 //! glpsol, so that other work on the machine counts as little as possible.
 
+use hubplan::distance::{Remainder, Sums};
 use hubplan::held::{HeldTable, Row};
 use hubplan::tables::{benchmark_tables, deep, in_turn, Planner, Table, DAY};
 use hubplan::{first_free, player_port, port, Kind, Player, Refusal, Stepped, PLAN_TAPE_BYTES, SPACE_BYTES};
@@ -344,7 +345,7 @@ fn instructions(folder: &Path) {
         let name = benchmark_tables()[index].0;
         let number = index.to_string();
         let proved = counted(folder, &["one", &number, "planner"], "hub_plan_round");
-        let ported = counted(folder, &["one", &number, "port"], "hubplan::port::plan");
+        let ported = counted(folder, &["one", &number, "port"], "hubplan::port::plan_by");
         match (proved, ported) {
             (Some(proved), Some(ported)) => println!("| {name} | {proved} | {ported} | {:.2} |", proved as f64 / ported as f64),
             _ => println!("| {name} | not counted | | |"),
@@ -383,9 +384,10 @@ fn check_day(tape: &[u8]) {
     assert_eq!(hubplan::start(tape, 0), player_port::start(tape, 0));
 }
 
-fn player_line(name: &str, times: &[Spread], counts: [Option<u64>; 2]) {
+/// A line of a table: two times and their ratio, two counts of instructions and theirs.
+fn line_of_two(name: &str, times: &[Spread], counts: [Option<u64>; 2]) {
     let instructions = match counts {
-        [Some(proved), Some(ported)] => format!("{proved} | {ported} | {:.2}", proved as f64 / ported as f64),
+        [Some(first), Some(second)] => format!("{first} | {second} | {:.2}", first as f64 / second as f64),
         _ => "not counted | |".to_string(),
     };
     let ratio = times[0].median / times[1].median;
@@ -402,19 +404,64 @@ fn players(folder: &Path) {
     let mut proved = || one_day(hubplan::step, &tape);
     let mut ported = || one_day(player_port::step, &tape);
     let steps = measure(&mut [&mut proved, &mut ported], 81);
-    let counts = [("player", "hub_player_step"), ("port", "hubplan::player_port::step")].map(|(who, name)| counted(folder, &["day", who], name));
-    player_line("a day of 43,200 steps", &steps, counts);
+    let counts = [("player", "hub_player_step"), ("port", "hubplan::player_port::step_by")].map(|(who, name)| counted(folder, &["day", who], name));
+    line_of_two("a day of 43,200 steps", &steps, counts);
     let mut proved = || one_start(hubplan::start, &tape);
     let mut ported = || one_start(player_port::start, &tape);
     let starts = measure(&mut [&mut proved, &mut ported], 81);
     let counts = [("player", "hub_player_start"), ("port", "hubplan::player_port::start")].map(|(who, name)| counted(folder, &["start", who], name));
-    player_line("a start", &starts, counts);
+    line_of_two("a start", &starts, counts);
     let of_step = |time: Spread| time.median / DAY as f64;
     println!(
         "\nA step takes {:.0} nanoseconds, and {:.0} in the hand port.",
         of_step(steps[0]),
         of_step(steps[1])
     );
+}
+
+/// The hand ports with the remainder beside the same with sums (request 6 of paper 02); they must agree.
+fn distances(folder: &Path) {
+    println!("\n## Distance with a remainder\n");
+    println!(
+        "The hand ports with (tick + R - start) mod R as a remainder, beside the same ports with a comparison and at most two sums. Microseconds of processor time: the \
+         median of repeated runs (lower to upper quartile). Instructions are counted by valgrind.\n"
+    );
+    println!("| | remainder | sums | remainder / sums | instructions | with sums | ratio |");
+    println!("|---|---|---|---|---|---|---|");
+    let tape = player_tape();
+    for tick in 0..DAY as u16 {
+        let step = |step: Step| step(&tape, Player { tick });
+        assert_eq!(step(player_port::step_by::<Remainder>), step(player_port::step_by::<Sums>));
+    }
+    let mut remainder = || one_day(player_port::step_by::<Remainder>, &tape);
+    let mut sums = || one_day(player_port::step_by::<Sums>, &tape);
+    let times = measure(&mut [&mut remainder, &mut sums], 81);
+    let counts = ["remainder", "port"].map(|who| counted(folder, &["day", who], "hubplan::player_port::step_by"));
+    line_of_two("a day of 43,200 steps", &times, counts);
+    for index in [0, 4] {
+        let (name, table) = &benchmark_tables()[index];
+        let times = ports(table);
+        let number = index.to_string();
+        let counts = ["remainder", "port"].map(|who| counted(folder, &["one", &number, who], "hubplan::port::plan_by"));
+        line_of_two(&format!("a plan of 64 rows, {name}"), &times, counts);
+    }
+}
+
+/// The port's time for a table, with the remainder and with sums.
+fn ports(table: &Table) -> Vec<Spread> {
+    let plan = |planner: Planner, labels: &mut [u8], space: &mut [u8]| black_box(black_box(table).plan(planner, labels, space));
+    let (mut labels, mut space) = (vec![0; table.rows()], vec![0; SPACE_BYTES]);
+    let (mut labels2, mut space2) = (labels.clone(), space.clone());
+    let answer = plan(port::plan_by::<Remainder>, &mut labels, &mut space);
+    assert_eq!(answer, plan(port::plan_by::<Sums>, &mut labels2, &mut space2));
+    assert_eq!(labels, labels2);
+    let mut remainder = || {
+        let _ = plan(port::plan_by::<Remainder>, &mut labels, &mut space);
+    };
+    let mut sums = || {
+        let _ = plan(port::plan_by::<Sums>, &mut labels2, &mut space2);
+    };
+    measure(&mut [&mut remainder, &mut sums], 81)
 }
 
 /// A held table of the first rows of a round that has a plan, so each of its additions is accepted.
@@ -508,13 +555,15 @@ fn main() {
     match words[..] {
         ["one", index, "planner"] => return one_plan(index.parse().expect("a table's number"), hubplan::plan),
         ["one", index, "port"] => return one_plan(index.parse().expect("a table's number"), port::plan),
+        ["one", index, "remainder"] => return one_plan(index.parse().expect("a table's number"), port::plan_by::<Remainder>),
         ["day", "player"] => return one_day(hubplan::step, &player_tape()),
         ["day", "port"] => return one_day(player_port::step, &player_tape()),
+        ["day", "remainder"] => return one_day(player_port::step_by::<Remainder>, &player_tape()),
         ["start", "player"] => return one_start(hubplan::start, &player_tape()),
         ["start", "port"] => return one_start(player_port::start, &player_tape()),
         [] | ["held"] | ["player"] => {}
         _ => {
-            eprintln!("usage: benchmark [held | player | one NUMBER planner|port | day player|port | start player|port]");
+            eprintln!("usage: benchmark [held | player | one NUMBER planner|port|remainder | day player|port|remainder | start player|port]");
             std::process::exit(2);
         }
     }
@@ -530,6 +579,7 @@ fn main() {
     }
     if words != ["held"] {
         players(&folder);
+        distances(&folder);
     }
     fs::remove_dir_all(&folder).expect("the folder goes");
 }

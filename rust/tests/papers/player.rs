@@ -107,6 +107,11 @@ impl Stated {
     }
 }
 
+/// "how far a tick lies after a window's start": "the tick plus R less the start, modulo R" (request 6).
+pub fn distance(ticks: u16, start: u16, tick: u16) -> u32 {
+    (tick as u32 + ticks as u32 - start as u32) % ticks as u32
+}
+
 /// What a start gives: the refusal's number and the player's tick.
 pub fn started(tape: &[u8], first: u16) -> (u8, u16) {
     if !is_taken(tape) {

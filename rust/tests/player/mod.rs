@@ -1,8 +1,9 @@
-//! The player against requests 1 and 3 written down independently (tests/papers/player.rs). Each start and step is made three times: by the C function, whose whole answer is
-//! compared, by the safe function over it, and by the hand port.
+//! The player against requests 1, 3 and 6 written down independently (tests/papers/player.rs). Each start and step is made by the C function, whose whole answer is compared, by
+//! the safe function over it, and by the hand port, a step once more by the port with the remainder.
 
 use super::papers::player::{self as right, Told};
 use super::{random_gap, random_setting, random_table, table_of, OneIn};
+use hubplan::distance::Remainder;
 use hubplan::tables::{benchmark_tables, Sequence, Table};
 use hubplan::{player_port, port, Kind, Player, Receiver, Refusal, Stepped, PLAN_TAPE_BYTES, SPACE_BYTES};
 
@@ -78,6 +79,8 @@ fn compare_step(tape: &[u8], tick: u16, told: Option<[Told; 2]>, next: u16) {
     };
     assert_eq!(hubplan::step(tape, Player { tick }), result, "{tape:02x?} at {tick}");
     assert_eq!(player_port::step(tape, Player { tick }), result, "{tape:02x?} at {tick}, hand port");
+    let by_remainder = player_port::step_by::<Remainder>(tape, Player { tick });
+    assert_eq!(by_remainder, result, "{tape:02x?} at {tick}, hand port with the remainder");
 }
 
 /// Starts a player at each of the first ticks and follows it: two whole days and a few ticks of a round, or a run to its end and beyond.
@@ -136,6 +139,31 @@ fn every_first_tick_of_short_days() {
         rounds > 200 && rounds < 400 && gaps > 200 && listens > 1_500 && all_day > 50,
         "{rounds} rounds, {gaps} tapes written with a gap, {listens} LISTENs, {all_day} of them all day"
     );
+}
+
+/// Request 6, of every R: a round with one window from each to each of six ticks tells of it exactly at the ticks that lie less far after its start than its end does, or always
+/// where the end is the start.
+#[test]
+fn every_round_by_the_remainder() {
+    let (mut listening, mut idle, mut before) = (0, 0, 0);
+    for ticks in 2..=43_200 {
+        let chosen = [0, 1, ticks / 2 - 1, ticks / 2, ticks - 2, ticks - 1];
+        for start in chosen {
+            for end in chosen {
+                let [[a, b], [c, d], [e, f]] = [ticks, start, end].map(u16::to_be_bytes);
+                let tape = [0x10, a, b, 0x20, 1, 0x30, 5, c, d, e, f, 0x20, 2, 0x7f];
+                for tick in chosen {
+                    let far = |to| right::distance(ticks, start, to);
+                    let told = (start == end || far(tick) < far(end)).then_some((5, end));
+                    compare_step(&tape, tick, Some([told, None]), if tick + 1 == ticks { 0 } else { tick + 1 });
+                    *(if told.is_some() { &mut listening } else { &mut idle }) += 1;
+                    before += u32::from(told.is_some() && tick < start);
+                }
+            }
+        }
+    }
+    println!("every R: {listening} steps that listen, {before} of them before the window's start, {idle} idle");
+    assert!(listening > 1_000_000 && idle > 1_000_000 && before > 1_000_000);
 }
 
 #[test]
