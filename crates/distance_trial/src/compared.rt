@@ -1,5 +1,7 @@
 // One distance compared, and what was met.
-ghost use Rattle.window.specs.Ticks.{Ticks};
+ghost use mathlib.Core.Path.{_≡_};
+ghost use lib.Dec.{eqb};
+ghost use Rattle.window.specs.Ticks.{Ticks, distance};
 use trial_report::Group;
 use trial_report::more;
 use trial_report::no_cases;
@@ -24,14 +26,22 @@ pub fn none() -> Tally {
     }
 }
 
-// One distance more, which is right if it is the expected one.
+// Whether the product gives the expected distance.
+fn is_right(ticks: u16, start: u16, tick: u16, expected: u16) -> bool
+    requires { ⌜ Ticks ticks start tick ⌝ }
+    ensures { λ r. ⌜ r ≡ eqb (distance ticks start tick) expected ⌝ }
+{
+    window::distance(ticks, start, tick) == expected
+}
+
+// One distance more.
 pub fn with(tally: Tally, ticks: u16, start: u16, tick: u16, expected: u16) -> Tally
     requires { ⌜ Ticks ticks start tick ⌝ }
 {
-    let distance = window::distance(ticks, start, tick);
+    let right = is_right(ticks, start, tick, expected);
     let sum = (tick as u32) + (ticks as u32);
     Tally {
-        distances: with_case(tally.distances, distance == expected),
+        distances: with_case(tally.distances, right),
         at: more(tally.at, tick == start),
         after: more(tally.after, start < tick),
         before: more(tally.before, tick < start),

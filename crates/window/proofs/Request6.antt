@@ -62,12 +62,12 @@ request-6 R s t l m hs ht =
 abbrev distances : ℕ → List (ℕ × ℕ) → List ℕ
 distances R = map (λ p. distance R (p .0) (p .1))
 
--- all ticks of the shortest round,
+-- in the shortest round, all of them
 shortest : distances 2 ((0, 0) ∷ (0, 1) ∷ (1, 0) ∷ (1, 1) ∷ []) ≡ 0 ∷ 1 ∷ 1 ∷ 0 ∷ []
 unfolding distance
 shortest = refl
 
--- and of the longest: one tick, the last and the first, over the end of the day, and two where the tick plus R is above 65,535
+-- in the longest: a tick and itself, the first and the last, the tick before the start, over the end of the day, and two of which the tick plus R leaves 16 bits
 longest : distances 43200 ((0, 0) ∷ (43199, 43199) ∷ (0, 43199) ∷ (43199, 0) ∷ (1, 0) ∷ (43000, 400) ∷ (30000, 25000) ∷ (43199, 43198) ∷ [])
     ≡ 0 ∷ 0 ∷ 43199 ∷ 1 ∷ 43199 ∷ 600 ∷ 38200 ∷ 43199 ∷ []
 unfolding distance
