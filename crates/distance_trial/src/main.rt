@@ -24,6 +24,7 @@ enum Chosen {
     Six,
 }
 
+// How many ticks of a round are chosen.
 fn how_many(chosen: Chosen, ticks: u16) -> u16 {
     match chosen {
         Chosen::Every => ticks,
@@ -31,6 +32,7 @@ fn how_many(chosen: Chosen, ticks: u16) -> u16 {
     }
 }
 
+// One of the six; in a short round some of them are the same.
 fn six(ticks: u16, i: u16) -> u16
     requires { ⌜ 2 ≤ ticks ⌝ }
     ensures { λ r. ⌜ r < ticks ⌝ }
@@ -45,6 +47,7 @@ fn six(ticks: u16, i: u16) -> u16
     }
 }
 
+// One of the chosen ticks.
 fn tick_of(chosen: Chosen, ticks: u16, i: u16) -> u16
     requires { ⌜ 2 ≤ ticks ⌝ }
     ensures { λ r. ⌜ r < ticks ⌝ }
