@@ -61,7 +61,7 @@ pub fn step(tape: &[u8], player: Player) -> Stepped {
     step_by::<Sums>(tape, player)
 }
 
-/// The same with distances worked out in a way of one's own.
+/// The same, with distances worked out by `D`.
 #[inline(never)]
 pub fn step_by<D: Distance>(tape: &[u8], player: Player) -> Stepped {
     let Some((run, ticks, rest)) = head(tape).filter(|&(_, ticks, _)| player.tick < ticks) else {
