@@ -35,7 +35,7 @@ fn is_right(ticks: u16, start: u16, tick: u16, expected: u16) -> bool
 }
 
 // One distance more.
-pub fn with(tally: Tally, ticks: u16, start: u16, tick: u16, expected: u16) -> Tally
+pub fn with_distance(tally: Tally, ticks: u16, start: u16, tick: u16, expected: u16) -> Tally
     requires { ⌜ Ticks ticks start tick ⌝ }
 {
     let right = is_right(ticks, start, tick, expected);

@@ -76,7 +76,7 @@ fn from_start(before: Tally, chosen: Chosen, ticks: u16, start: u16) -> Tally
     for i in 0..how_many(chosen, ticks) {
         let tick = tick_of(chosen, ticks, i);
         let far = expected(chosen, ticks, start, tick);
-        tally = compared::with(tally, ticks, start, tick, far);
+        tally = compared::with_distance(tally, ticks, start, tick, far);
     }
     tally
 }

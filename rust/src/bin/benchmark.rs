@@ -430,8 +430,8 @@ fn distances(folder: &Path) {
     println!("|---|---|---|---|---|---|---|");
     let tape = player_tape();
     for tick in 0..DAY as u16 {
-        let step = |step: Step| step(&tape, Player { tick });
-        assert_eq!(step(player_port::step_by::<Remainder>), step(player_port::step_by::<Sums>));
+        let told = |step: Step| step(&tape, Player { tick });
+        assert_eq!(told(player_port::step_by::<Remainder>), told(player_port::step_by::<Sums>));
     }
     let mut remainder = || one_day(player_port::step_by::<Remainder>, &tape);
     let mut sums = || one_day(player_port::step_by::<Sums>, &tape);

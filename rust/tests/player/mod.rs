@@ -156,7 +156,8 @@ fn every_round_by_the_remainder() {
                     let far = |to| right::distance(ticks, start, to);
                     let told = (start == end || far(tick) < far(end)).then_some((5, end));
                     compare_step(&tape, tick, Some([told, None]), if tick + 1 == ticks { 0 } else { tick + 1 });
-                    *(if told.is_some() { &mut listening } else { &mut idle }) += 1;
+                    listening += u32::from(told.is_some());
+                    idle += u32::from(told.is_none());
                     before += u32::from(told.is_some() && tick < start);
                 }
             }

@@ -23,8 +23,8 @@ tick-of-requires c κs = search needs
 expected-requires : tie.Need-expected-requires Inv-loop μ-loop
 expected-requires c κs = search needs
 
-with-requires : tie.Need-with-requires Inv-loop μ-loop
-with-requires c κs = search needs
+with-distance-requires : tie.Need-with-distance-requires Inv-loop μ-loop
+with-distance-requires c κs = search needs
 
 add-i : tie.Need-add-i Inv-loop μ-loop
 add-i c = search needs
@@ -48,7 +48,7 @@ from-start-spec =
     loop-holds
     tick-of-requires
     expected-requires
-    with-requires
+    with-distance-requires
     add-i
     loop-less
     loop-again
