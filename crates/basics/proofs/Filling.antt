@@ -7,8 +7,8 @@ use native.Mathlib.Omega.{arith}
 use native.Mathlib.Nat.{eq-or-lt-of-le}
 use lib.ListN.{length, set, length-set, length-map}
 use lib.Seq.{getD-set-same, getD-set-other, ext-getD}
-use Rattle.basics.specs.Lists.{at}
-use Rattle.basics.proofs.Lists.{at-map}
+use Rattle.basics.specs.Lists.{at, listOf}
+use Rattle.basics.proofs.Lists.{at-map, length-list, at-list}
 
 -- the first n entries are those of f, and the others as they were
 pub record Filled (f : ℕ → ℕ) (n : ℕ) (old new : List ℕ) : Type 0 where
@@ -36,3 +36,9 @@ pub filled-map : (f : ℕ → ℕ) (l : List ℕ) {old new : List ℕ} (n : ℕ)
 filled-map f l {old} {new} n e h w =
     ext-getD 0 new (map f l) (w .each ∙ h ∙ sym (length-map l f))
     (λ k b. w .done k (omega (arith, w .each)) ∙ sym (at-map f l k (omega (arith, w .each))))
+
+-- all entries are those of f
+pub filled-list : {f : ℕ → ℕ} {old new : List ℕ} {i : ℕ} (n : ℕ) → length old ≡ n → n ≤ i → Filled f i old new → new ≡ listOf n f
+filled-list {f} {old} {new} n e h w =
+    ext-getD 0 new (listOf n f) (w .each ∙ e ∙ sym (length-list n f))
+    (λ k b. w .done k (omega (arith, w .each)) ∙ sym (at-list n f k (omega (arith, w .each))))

@@ -1,11 +1,11 @@
--- Laws of the entries of a list, and of a list without one of them.
+-- Laws of the entries of a list, of the list of so many entries, and of a list without one of its entries.
 use Prim.Native.Nat.{ℕ, zero, suc, _+_, _≤_, _<_}
 use mathlib.Core.Path.{_≡_, refl, ap}
 use mathlib.Core.List.{List, [], _∷_, _++_, map}
 use mathlib.Core.Logic.{_≢_}
 use native.Mathlib.Omega.{arith}
-use lib.ListN.{length, getD, take, drop}
-use Rattle.basics.specs.Lists.{at, without}
+use lib.ListN.{length, getD, take, drop, replicate}
+use Rattle.basics.specs.Lists.{at, listOf, without}
 
 -- within a list the value that stands for "past its end" does not matter
 pub getD-any : (l : List ℕ) (i d e : ℕ) → i < length l → getD l i d ≡ getD l i e
@@ -17,6 +17,25 @@ pub at-map : (f : ℕ → ℕ) (l : List ℕ) (i : ℕ) → i < length l → at 
 at-map f [] i h = absurd (omega arith)
 at-map f (x ∷ l) zero h = refl
 at-map f (x ∷ l) (suc i) h = at-map f l i (omega arith)
+
+-- ---- the list of so many entries
+
+pub length-list : (n : ℕ) (f : ℕ → ℕ) → length (listOf n f) ≡ n
+unfolding listOf
+length-list zero f = refl
+length-list (suc n) f = ap suc (length-list n (λ i. f (suc i)))
+
+pub at-list : (n : ℕ) (f : ℕ → ℕ) (i : ℕ) → i < n → at (listOf n f) i ≡ f i
+unfolding listOf
+at-list zero f i h = absurd (omega arith)
+at-list (suc n) f zero h = refl
+at-list (suc n) f (suc i) h = at-list n (λ i. f (suc i)) i (omega arith)
+
+-- all entries are the same
+pub list-same : (n : ℕ) (f : ℕ → ℕ) (x : ℕ) → ((i : ℕ) → f i ≡ x) → replicate n x ≡ listOf n f
+unfolding listOf
+list-same zero f x h = refl
+list-same (suc n) f x h = rw (h 0) (ap (λ l. x ∷ l) (list-same n (λ i. f (suc i)) x (λ i. h (suc i))))
 
 -- ---- a list without its entry k
 

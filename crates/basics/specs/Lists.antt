@@ -1,4 +1,4 @@
--- Believed: Lists of numbers: the entry at a place, a text at the front, an entry taken out, bytes stored at a place, neighbours exchanged.
+-- Believed: Lists of numbers: the entry at a place, the list of so many entries, a text at the front, an entry taken out, bytes stored at a place, neighbours exchanged.
 use Prim.Native.Nat.{ℕ, zero, suc, _+_}
 use mathlib.Core.Path.{_≡_}
 use mathlib.Core.List.{List, [], _∷_, _++_}
@@ -8,6 +8,11 @@ use lib.Seq.{sets}
 -- the entry at place i, counted from 0; 0 past the end
 abbrev pub at : List ℕ → ℕ → ℕ
 at l i = getD l i 0
+
+-- the list of f 0, f 1, .., f (n - 1)
+unfoldable pub listOf : ℕ → (ℕ → ℕ) → List ℕ
+listOf zero f = []
+listOf (suc n) f = f 0 ∷ listOf n (λ i. f (suc i))
 
 -- the text stands at the front of a list that held `before`; the places after it are untouched
 abbrev pub front : List ℕ → List ℕ → List ℕ

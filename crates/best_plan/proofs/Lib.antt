@@ -4,3 +4,4 @@ pub mod Rows
 pub mod Request3
 pub mod Request4
 pub mod Given
+pub mod Clearing

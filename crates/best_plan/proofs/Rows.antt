@@ -1,11 +1,13 @@
 -- From paper to core: a list of labels is a plan of a checked table exactly if it is an assignment of its arcs and permissions. Run and round together.
 use Prim.Native.Nat.{ℕ, _+_, _≤_, _<_}
-use mathlib.Core.Path.{_≡_, sym, _∙_}
-use mathlib.Core.Logic.{_≢_, _↔_}
+use mathlib.Core.Path.{_≡_, sym, ap, _∙_}
+use mathlib.Core.Logic.{_≢_, _↔_, _⊎_, inl, inr}
 use mathlib.Core.Bool.{true}
-use mathlib.Core.List.{List}
+use mathlib.Core.List.{List, _++_}
 use native.Mathlib.Omega.{arith}
-use lib.ListN.{length}
+use native.Mathlib.Nat.{eq-or-lt-of-le}
+use lib.ListN.{length, set, length-set, length-append, List·getD-append}
+use lib.Seq.{getD-set-same, getD-set-other}
 use Rattle.basics.specs.Lists.{at}
 use Rattle.basics.proofs.Filling.{Filled}
 use Rattle.labels.specs.Permission.{permits}
@@ -17,9 +19,11 @@ use Rattle.window.proofs.Meaning.{window-start}
 use Rattle.arcs.specs.Arcs.{Meet, Arcs, Assigned}
 use Rattle.table.specs.declared.Setting.{Setting}
 use Rattle.table.specs.Tables.{Table, rows, rowAt, Allowed, Clash, Plan, ValidSetting, ValidRow, Valid, isAllowed}
+use Rattle.table.specs.Changes.{withRow}
 use Rattle.table.proofs.Plans.{allowed-iff}
+use Rattle.table.proofs.Changes.{rows-with, row-before, row-last, valid-with}
 use Rattle.best_plan.proofs.Reach.{circle-least, cut-most, arc-some, close-iff}
-use Rattle.best_plan.specs.Rows.{circleOf, arcOf, permissionOf, ArcLists, ArcsOf}
+use Rattle.best_plan.specs.Rows.{circleOf, arcOf, permissionOf, ArcLists, ArcsOf, ValidWith}
 
 module _ (S : Setting) where
   pub circle-some : ValidSetting S → 1 ≤ circleOf S
@@ -98,3 +102,46 @@ arcs-set t lists i e a b c =
       ticks = λ k h. b .done k (omega arith);
       perm = λ k h. c .done k (omega arith);
     }
+
+-- ---- a row more
+
+-- in a list that begins with an entry for each row, the entry after them is set: then there is one for each row of the longer table
+module _ (t : Table) (valid : Valid t) (new : Row) (f : Row → ℕ) (first rest : List ℕ) {l : List ℕ} (e : l ≡ set (first ++ rest) (rows t) (f new)) (one : length rest ≡ 1) (each : length first ≡ rows t) where
+  each-with : length l ≡ rows (withRow t new)
+  each-with = omega (arith, ap length e, length-set (first ++ rest) (rows t) (f new), length-append first rest, rows-with t new)
+
+  entry-with : ((i : ℕ) → i < rows t → at first i ≡ f (rowAt t i)) → (i : ℕ) → i < rows (withRow t new) → at l i ≡ f (rowAt (withRow t new) i)
+  entry-with h i b = go (eq-or-lt-of-le (omega (arith, rows-with t new)))
+    where
+      go : (i ≡ rows t) ⊎ (i < rows t) → at l i ≡ f (rowAt (withRow t new) i)
+      go (inl q) =
+          rw (q, e, row-last t new (valid .each-end) (valid .each-mark))
+          (getD-set-same (first ++ rest) (rows t) (f new) 0 (omega (arith, length-append first rest)))
+      go (inr q) =
+          rw (e, row-before t new (valid .each-end) (valid .each-mark) i q)
+          (getD-set-other (first ++ rest) (rows t) i (f new) 0 (λ r. omega arith) ∙ List·getD-append first rest 0 i (omega arith) ∙ h i q)
+
+pub longer-valid : (t : Table) (new : Row) → ValidWith t new → Valid (withRow t new)
+longer-valid t new v = valid-with t new (v .valid .each-end) (v .valid .each-mark) (v .valid) (v .new) (v .few)
+
+-- the arc and permission of a row are written after those of a table
+module _ (t : Table) (valid : Valid t) (new : Row) {a b c : List ℕ} (arcs : ArcsOf t a b c) (ra rb rc : List ℕ) {starts lengths perms : List ℕ}
+    (stored : (starts ≡ set (a ++ ra) (rows t) (arcOf (t .setting) new .start)) × ((lengths ≡ set (b ++ rb) (rows t) (arcOf (t .setting) new .length)) × (perms ≡ set (c ++ rc) (rows t) (permissionOf (t .setting) new)))) where
+  pub arcs-with : length ra ≡ 1 → length rb ≡ 1 → length rc ≡ 1 → ArcsOf (withRow t new) starts lengths perms
+  arcs-with x y z =
+      let arc-start : Row → ℕ = λ r. arcOf (t .setting) r .start in
+      let arc-length : Row → ℕ = λ r. arcOf (t .setting) r .length in
+      let e = arcs .lists .each-start in
+      let f = arcs .lists .each-length in
+      let g = arcs .lists .each-perm in
+      record {
+        lists =
+            record {
+              each-start = each-with t valid new arc-start a ra (stored .0) x e;
+              each-length = each-with t valid new arc-length b rb (stored .1 .0) y f;
+              each-perm = each-with t valid new (permissionOf (t .setting)) c rc (stored .1 .1) z g;
+            };
+        start = entry-with t valid new arc-start a ra (stored .0) x e (arcs .start);
+        ticks = entry-with t valid new arc-length b rb (stored .1 .0) y f (arcs .ticks);
+        perm = entry-with t valid new (permissionOf (t .setting)) c rc (stored .1 .1) z g (arcs .perm);
+      }

@@ -7,6 +7,7 @@ use mathlib.Core.Option.{Option, none, some}
 use lib.Dec.{leb}
 use lib.ListN.{length}
 use Rattle.line.specs.Cells.{coreBytes}
+use Rattle.basics.specs.Limits.{maxRows}
 use Rattle.basics.specs.Lists.{at}
 use Rattle.labels.specs.Labels.{heard}
 use Rattle.labels.specs.Permission.{permission}
@@ -17,6 +18,7 @@ use Rattle.window.specs.Windows.{ticksIn}
 use Rattle.window.specs.Gaps.{maxGap}
 use Rattle.table.specs.declared.Setting.{Setting}
 use Rattle.table.specs.Tables.{Table, rows, rowAt, isAllowed, ValidSetting, ValidRow, Valid}
+use Rattle.table.specs.Planned.{bestPlan}
 use Rattle.best_plan.specs.declared.Arc.{Arc}
 
 -- The ticks of the circle. A run is a circle that no arc crosses: the longest gap fits between its last tick and its first, so that the gap of the last window does not reach the first.
@@ -46,6 +48,12 @@ unfoldable pub permissionOf : Setting → Row → ℕ
 unfolding permission isAllowed
 permissionOf S row = permission (isAllowed S row 0) (isAllowed S row 1) (isAllowed S row 2)
 
+-- place i in lists for arcs and permissions
+pub record ArcPlace (i : ℕ) (starts lengths perms : List ℕ) : Type 0 where
+  pub start : i < length starts
+  pub ticks : i < length lengths
+  pub perm : i < length perms
+
 -- lists as long as the table has rows, for their arcs and permissions
 pub record ArcLists (t : Table) (starts lengths perms : List ℕ) : Type 0 where
   pub each-start : length starts ≡ rows t
@@ -70,8 +78,30 @@ pub record Countable (t : Table) (space : List ℕ) : Type 0 where
   pub valid : Valid t
   pub room : coreBytes ≤ length space
 
+-- such a table, and a row more that passed its checks too
+pub record ValidWith (t : Table) (row : Row) : Type 0 where
+  pub valid : Valid t
+  pub new : ValidRow (t .setting) row
+  pub few : rows t < maxRows
+
+-- what counting for the longer table is lent
+pub record CountableWith (t : Table) (row : Row) (space : List ℕ) : Type 0 where
+  pub longer : ValidWith t row
+  pub room : coreBytes ≤ length space
+
 -- how many rows a plan hears, and one more; 0 without a plan
 unfoldable pub countOf : Option (List ℕ) → ℕ
 unfolding heard
 countOf none = 0
 countOf (some plan) = suc (heard plan)
+
+-- what counting for arcs and permissions is lent: they are those of some checked table
+pub record CountableArcs (S : Setting) (starts lengths perms space : List ℕ) : Type 0 where
+  pub of : Table
+  pub setting : of .setting ≡ S
+  pub countable : Countable of space
+  pub arcs : ArcsOf of starts lengths perms
+
+-- and what it gives is the count of every checked table whose arcs and permissions they are
+abbrev pub CountOfArcs : Setting → List ℕ → List ℕ → List ℕ → ℕ → Type 0
+CountOfArcs S starts lengths perms r = (t : Table) → t .setting ≡ S → Valid t → ArcsOf t starts lengths perms → r ≡ countOf (bestPlan t)

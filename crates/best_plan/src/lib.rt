@@ -2,12 +2,13 @@
 ghost use mathlib.Core.Path.{_≡_};
 ghost use mathlib.Core.List.{_++_, map};
 ghost use Prim.Native.Nat.{_≤_};
-ghost use lib.ListN.{length, drop, replicate};
+ghost use lib.ListN.{length, drop, replicate, set};
 ghost use Rattle.labels.specs.Permission.{labelOf};
 ghost use Rattle.line.specs.Cells.{coreBytes};
 ghost use Rattle.table.specs.Tables.{table, Valid, ValidSetting};
 ghost use Rattle.table.specs.Planned.{spaceBytes, bestPlan, answering, given};
-ghost use Rattle.best_plan.specs.Rows.{circleOf, cutOff, arcOf, HasArc, permissionOf, ArcLists, ArcsOf, Checked, Countable, countOf};
+ghost use Rattle.table.specs.Changes.{withRow};
+ghost use Rattle.best_plan.specs.Rows.{circleOf, cutOff, arcOf, HasArc, permissionOf, ArcPlace, ArcLists, ArcsOf, Checked, Countable, CountableArcs, CountOfArcs, ValidWith, CountableWith, countOf};
 use basics::MAX_ROWS;
 use refusals::Answer;
 use refusals::Refusal;
@@ -71,6 +72,27 @@ fn permission(setting: Setting, row: Row) -> u8
     )
 }
 
+// Writes the arc and permission of a row at place i.
+fn set_arc(
+    setting: Setting,
+    row: Row,
+    i: usize,
+    arc_starts: &mut [u16],
+    arc_lengths: &mut [u16],
+    perms: &mut [u8],
+)
+    requires { ⌜ HasArc setting row ⌝ }
+    requires { ⌜ ArcPlace i (now «arc_starts») (now «arc_lengths») (now perms) ⌝ }
+    ensures { λ r. ⌜ now («arc_starts» .exit) ≡ set (now («arc_starts» .entry)) i (arcOf setting row .start) ⌝ }
+    ensures { λ r. ⌜ now («arc_lengths» .exit) ≡ set (now («arc_lengths» .entry)) i (arcOf setting row .length) ⌝ }
+    ensures { λ r. ⌜ now (perms .exit) ≡ set (now (perms .entry)) i (permissionOf setting row) ⌝ }
+{
+    let arc = arc_of(setting, row);
+    arc_starts[i] = arc.start;
+    arc_lengths[i] = arc.length;
+    perms[i] = permission(setting, row);
+}
+
 // Writes the arcs and permissions of the rows of a checked table.
 fn set_arcs(
     setting: Setting,
@@ -88,10 +110,7 @@ fn set_arcs(
     let mut i: usize = 0;
     while i < starts.len() {
         let row = table::row_at(starts, ends, marks, i);
-        let arc = arc_of(setting, row);
-        arc_starts[i] = arc.start;
-        arc_lengths[i] = arc.length;
-        perms[i] = permission(setting, row);
+        set_arc(setting, row, i, arc_starts, arc_lengths, perms);
         i += 1;
     }
 }
@@ -182,6 +201,22 @@ pub fn clear_space(space: &mut [u8])
     }
 }
 
+// Counts for the arcs and permissions of a checked table.
+fn count_arcs(
+    setting: Setting,
+    arc_starts: &mut [u16],
+    arc_lengths: &mut [u16],
+    perms: &mut [u8],
+    space: &mut [u8],
+) -> u8
+    requires { ⌜ CountableArcs setting (now «arc_starts») (now «arc_lengths») (now perms) (now space) ⌝ }
+    ensures { λ r. ⌜ CountOfArcs setting (now («arc_starts» .entry)) (now («arc_lengths» .entry)) (now (perms .entry)) r ⌝ }
+    ensures { λ r. ⌜ drop coreBytes (now (space .exit)) ≡ drop coreBytes (now (space .entry)) ⌝ }
+{
+    let circle = circle_of(setting);
+    tracks::best_count(circle, arc_starts, arc_lengths, perms, space)
+}
+
 // Counts for a checked table over lent lists for its arcs and permissions.
 fn count_lent(
     setting: Setting,
@@ -199,8 +234,7 @@ fn count_lent(
     ensures { λ r. ⌜ drop coreBytes (now (space .exit)) ≡ drop coreBytes (now (space .entry)) ⌝ }
 {
     set_arcs(setting, starts, ends, marks, arc_starts, arc_lengths, perms);
-    let circle = circle_of(setting);
-    tracks::best_count(circle, arc_starts, arc_lengths, perms, space)
+    count_arcs(setting, arc_starts, arc_lengths, perms, space)
 }
 
 // How many rows the best plan of a checked table hears, and one more; 0 where there is no plan. It leaves open what the first 4,608 bytes of the working space then hold.
@@ -224,6 +258,94 @@ pub fn count_checked(
         starts,
         ends,
         marks,
+        space,
+        &mut arc_starts[..n],
+        &mut arc_lengths[..n],
+        &mut perms[..n],
+    )
+}
+
+// Writes the arcs and permissions of the rows of a checked table, and after them those of a row more.
+fn set_arcs_with(
+    setting: Setting,
+    starts: &[u16],
+    ends: &[u16],
+    marks: &[u8],
+    row: Row,
+    arc_starts: &mut [u16],
+    arc_lengths: &mut [u16],
+    perms: &mut [u8],
+)
+    requires { ⌜ ValidWith (table setting (now starts) (now ends) (now marks)) row ⌝ }
+    requires { ⌜ ArcLists (withRow (table setting (now starts) (now ends) (now marks)) row) (now «arc_starts») (now «arc_lengths») (now perms) ⌝ }
+    ensures { λ r. ⌜ ArcsOf (withRow (table setting (now (starts .entry)) (now (ends .entry)) (now (marks .entry))) row) (now («arc_starts» .exit)) (now («arc_lengths» .exit)) (now (perms .exit)) ⌝ }
+{
+    let n = starts.len();
+    set_arcs(
+        setting,
+        starts,
+        ends,
+        marks,
+        &mut arc_starts[..n],
+        &mut arc_lengths[..n],
+        &mut perms[..n],
+    );
+    set_arc(setting, row, n, arc_starts, arc_lengths, perms);
+}
+
+// Counts for a checked table with a row more over lent lists for the arcs and permissions of all its rows.
+fn count_with_lent(
+    setting: Setting,
+    starts: &[u16],
+    ends: &[u16],
+    marks: &[u8],
+    row: Row,
+    space: &mut [u8],
+    arc_starts: &mut [u16],
+    arc_lengths: &mut [u16],
+    perms: &mut [u8],
+) -> u8
+    requires { ⌜ CountableWith (table setting (now starts) (now ends) (now marks)) row (now space) ⌝ }
+    requires { ⌜ ArcLists (withRow (table setting (now starts) (now ends) (now marks)) row) (now «arc_starts») (now «arc_lengths») (now perms) ⌝ }
+    ensures { λ r. ⌜ r ≡ countOf (bestPlan (withRow (table setting (now (starts .entry)) (now (ends .entry)) (now (marks .entry))) row)) ⌝ }
+    ensures { λ r. ⌜ drop coreBytes (now (space .exit)) ≡ drop coreBytes (now (space .entry)) ⌝ }
+{
+    set_arcs_with(
+        setting,
+        starts,
+        ends,
+        marks,
+        row,
+        arc_starts,
+        arc_lengths,
+        perms,
+    );
+    count_arcs(setting, arc_starts, arc_lengths, perms, space)
+}
+
+// The same of a checked table with a row more, which has passed its checks too. The table itself stays as it is lent.
+pub fn count_with(
+    setting: Setting,
+    starts: &[u16],
+    ends: &[u16],
+    marks: &[u8],
+    row: Row,
+    space: &mut [u8],
+) -> u8
+    requires { ⌜ CountableWith (table setting (now starts) (now ends) (now marks)) row (now space) ⌝ }
+    ensures { λ r. ⌜ r ≡ countOf (bestPlan (withRow (table setting (now (starts .entry)) (now (ends .entry)) (now (marks .entry))) row)) ⌝ }
+    ensures { λ r. ⌜ drop coreBytes (now (space .exit)) ≡ drop coreBytes (now (space .entry)) ⌝ }
+{
+    let mut arc_starts = [0u16; MAX_ROWS];
+    let mut arc_lengths = [0u16; MAX_ROWS];
+    let mut perms = [0u8; MAX_ROWS];
+    let n = starts.len() + 1;
+    count_with_lent(
+        setting,
+        starts,
+        ends,
+        marks,
+        row,
         space,
         &mut arc_starts[..n],
         &mut arc_lengths[..n],

@@ -18,13 +18,13 @@ imp-false true = refl
 imp-false false = refl
 
 module _ (mark : ℕ) where
-  must-iff : (isMust mark ≡ true) ↔ Must mark
+  pub must-iff : (isMust mark ≡ true) ↔ Must mark
   must-iff = or-iff (eqb-iff mark 1) (or-iff (eqb-iff mark 3) (eqb-iff mark 5))
 
-  receiver-1-iff : (isReceiver1Only mark ≡ true) ↔ Receiver1Only mark
+  pub receiver-1-iff : (isReceiver1Only mark ≡ true) ↔ Receiver1Only mark
   receiver-1-iff = or-iff (eqb-iff mark 2) (eqb-iff mark 3)
 
-  receiver-2-iff : (isReceiver2Only mark ≡ true) ↔ Receiver2Only mark
+  pub receiver-2-iff : (isReceiver2Only mark ≡ true) ↔ Receiver2Only mark
   receiver-2-iff = or-iff (eqb-iff mark 4) (eqb-iff mark 5)
 
   pub allows-iff : (x : ℕ) → (markAllows mark x ≡ true) ↔ (((Must mark → x ≢ 0) × (Receiver1Only mark → x ≢ 2)) × (Receiver2Only mark → x ≢ 1))

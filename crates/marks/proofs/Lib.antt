@@ -1,3 +1,4 @@
 -- Theorems about marks.
 pub mod Allowing
 pub mod Listed
+pub mod Raising

@@ -1,8 +1,8 @@
--- What each mark says, written out: request 2 of paper 02 as a table, by computing.
+-- What each mark says, written out: request 2 of paper 02 as a table, by computing; and how marks are raised (request 7).
 use Prim.Native.Nat.{ℕ}
 use mathlib.Core.Path.{_≡_, refl}
 use mathlib.Core.Bool.{Bool, true, false}
-use Rattle.marks.specs.Marks.{isMust, markAllows}
+use Rattle.marks.specs.Marks.{isMust, markAllows, raised}
 
 -- whether a row with the mark may be left out, heard by receiver 1, heard by receiver 2
 abbrev Allows : ℕ → Bool → Bool → Bool → Type 0
@@ -29,3 +29,16 @@ pub musts-listed :
     × (isMust 5 ≡ true)
     × (isMust 7 ≡ false)
 musts-listed = (refl, refl, refl, refl, refl, refl, refl)
+
+-- "marks 0, 2, 4 raised to 1, 3, 5"
+pub raised-listed :
+    (raised 0 ≡ 1)
+    × (raised 1 ≡ 1)
+    × (raised 2 ≡ 3)
+    × (raised 3 ≡ 3)
+    × (raised 4 ≡ 5)
+    × (raised 5 ≡ 5)
+    × (raised 6 ≡ 6)
+    × (raised 255 ≡ 255)
+unfolding raised
+raised-listed = (refl, refl, refl, refl, refl, refl, refl, refl)

@@ -3,7 +3,7 @@
 use Prim.Native.Nat.{ℕ}
 use mathlib.Core.Path.{_≡_}
 use mathlib.Core.Logic.{_⊎_}
-use mathlib.Core.Bool.{Bool, not, _&&_, _||_}
+use mathlib.Core.Bool.{Bool, cond, not, _&&_, _||_}
 use lib.Dec.{eqb}
 use Rattle.basics.specs.Tests.{_⇒_}
 
@@ -40,3 +40,7 @@ markAllows mark label =
     (isMust mark ⇒ not (eqb label 0))
     && (isReceiver1Only mark ⇒ not (eqb label 2))
     && (isReceiver2Only mark ⇒ not (eqb label 1))
+
+-- "marks 0, 2, 4 raised to 1, 3, 5" (request 7 of paper 02); others stay
+unfoldable pub raised : ℕ → ℕ
+raised mark = cond (eqb mark 0) 1 (cond (eqb mark 2) 3 (cond (eqb mark 4) 5 mark))

@@ -2,7 +2,7 @@
 ghost use mathlib.Core.Path.{_≡_};
 ghost use mathlib.Core.Bool.{_||_};
 ghost use lib.Dec.{eqb};
-ghost use Rattle.marks.specs.Marks.{isMust, isReceiver1Only, isReceiver2Only, markAllows};
+ghost use Rattle.marks.specs.Marks.{isMust, isReceiver1Only, isReceiver2Only, markAllows, raised};
 
 // Refusal 7 begins above it.
 pub const MAX_MARK: u8 = 5;
@@ -50,5 +50,17 @@ pub fn allows(mark: u8, label: u8) -> bool
         1 => !is_receiver_2_only(mark),
         2 => !is_receiver_1_only(mark),
         _ => true,
+    }
+}
+
+// The mark of the same row as one that must be heard.
+pub fn raise(mark: u8) -> u8
+    ensures { λ r. ⌜ r ≡ raised mark ⌝ }
+{
+    match mark {
+        0 => 1,
+        2 => 3,
+        4 => 5,
+        _ => mark,
     }
 }

@@ -1,22 +1,24 @@
 -- What the planner's parts report is what `planCall` yields: the best plan or none, a refusal changes nothing, and the working space is cleared where paper 01 says so.
-use Prim.Native.Nat.{ℕ, _-_, _≤_, _<_}
+use Prim.Native.Nat.{ℕ, _≤_, _<_}
 use mathlib.Core.Path.{_≡_, refl, sym, ap, _∙_}
+use mathlib.Core.Bool.{true, _||_}
 use mathlib.Core.List.{List, _++_}
 use mathlib.Core.Option.{Option, none, some}
 use native.Mathlib.Omega.{arith}
+use lib.Dec.{eqb}
 use lib.ListN.{length, drop, replicate}
-use lib.Seq.{drop-drop}
 use borrow.Author.Tests.{le-leb, lt-leb}
 use Rattle.line.specs.Cells.{coreBytes}
 use Rattle.refusals.specs.declared.Refusal.{Refusal}
 use Rattle.refusals.specs.declared.Refusal.the-variants.{Space}
 use Rattle.refusals.specs.declared.Answer.{Answer}
-use Rattle.refusals.specs.Refusals.{numberOf, answered, _then_}
+use Rattle.refusals.specs.Refusals.{numberOf, answered, passes, _then_}
 use Rattle.refusals.proofs.Refusals.{Passed, then-first, then-next}
 use Rattle.table.specs.Tables.{Table}
 use Rattle.table.specs.Checks.{listsRefusal, tableLooked}
 use Rattle.table.specs.Planned.{spaceBytes, spaceRefusal, checked, bestPlan, Planned, answering, given, planned, spaceAfter, called, planCall, Demand3}
 use Rattle.best_plan.specs.Rows.{Checked}
+use Rattle.best_plan.proofs.Clearing.{space-cleared}
 use Rattle.table.proofs.Checked.{checked-8, checked-valid}
 use Rattle.table.proofs.Calls.{space-kept}
 use Rattle.table.proofs.Rivals.{planned-passed, planned-refused, demand-3}
@@ -69,13 +71,10 @@ module _ (t : Table) (before space : List ℕ) where
       let v = checked-valid t before (length space) p in
       record { valid = v .0; each-label = v .1; room = omega arith }
 
-  cleared : (o : Option (List ℕ)) → replicate spaceBytes 0 ++ drop spaceBytes space ≡ spaceAfter (given o before .answer .refusal) space
-  unfolding spaceAfter given
-  cleared none = refl
-  cleared (some l) = refl
-
-  rest-kept : (used : List ℕ) → drop coreBytes used ≡ drop coreBytes space → drop spaceBytes used ≡ drop spaceBytes space
-  rest-kept used e = sym (drop-drop (spaceBytes - coreBytes) coreBytes used) ∙ ap (drop (spaceBytes - coreBytes)) e ∙ drop-drop (spaceBytes - coreBytes) coreBytes space
+  clears : (o : Option (List ℕ)) → (passes (given o before .answer .refusal) || eqb (numberOf (given o before .answer .refusal)) 8) ≡ true
+  unfolding given
+  clears none = refl
+  clears (some l) = refl
 
   -- what a call that passes the checks promises
   pub answer-said : Passed (checked t before (length space)) → (a : Answer) (after used space′ : List ℕ)
@@ -85,4 +84,4 @@ module _ (t : Table) (before space : List ℕ) where
   answer-said p a after used space′ e d s =
       promised a after space′
       (e ∙ sym (planned-passed t before (length space) p))
-      (s ∙ ap (λ x. replicate spaceBytes 0 ++ x) (rest-kept used d) ∙ cleared (bestPlan t) ∙ sym (ap (λ (x : Planned). spaceAfter (x .answer .refusal) space) e))
+      (space-cleared space used d (given (bestPlan t) before .answer .refusal) (clears (bestPlan t)) s ∙ sym (ap (λ (x : Planned). spaceAfter (x .answer .refusal) space) e))

@@ -5,7 +5,7 @@ use mathlib.Core.Bool.{Bool, true, false, cond, not}
 use native.Mathlib.Omega.{arith}
 use borrow.Author.Tests.{eq-eqb, ne-eqb, eqb-true, eqb-false, not-true, not-false}
 use Rattle.refusals.specs.declared.Refusal.{Refusal}
-use Rattle.refusals.specs.declared.Refusal.the-variants.{Accepted, Lists, Rows, Space, Ticks, Hours, Window, Mark, NoPlan, NotPlan, Buffer, Form, Tape, FirstTick, Gap, NoRow}
+use Rattle.refusals.specs.declared.Refusal.the-variants.{Accepted, Lists, Rows, Space, Ticks, Hours, Window, Mark, NoPlan, NotPlan, Buffer, Form, Tape, FirstTick, Gap, NoRow, Candidates}
 use Rattle.refusals.specs.Refusals.{numberOf, asked, passes, _then_}
 
 -- a check that refuses nothing
@@ -30,6 +30,7 @@ number-below Tape = omega arith
 number-below FirstTick = omega arith
 number-below Gap = omega arith
 number-below NoRow = omega arith
+number-below Candidates = omega arith
 
 -- only an accepted call has the number 0
 pub passed-accepted : (r : Refusal) → Passed r → r ≡ Accepted
@@ -49,6 +50,7 @@ passed-accepted Tape p = absurd (omega arith)
 passed-accepted FirstTick p = absurd (omega arith)
 passed-accepted Gap p = absurd (omega arith)
 passed-accepted NoRow p = absurd (omega arith)
+passed-accepted Candidates p = absurd (omega arith)
 
 -- ---- what comes out, from what a function that makes the check returned
 
@@ -129,4 +131,5 @@ pub numbers :
     × (numberOf FirstTick ≡ 13)
     × (numberOf Gap ≡ 14)
     × (numberOf NoRow ≡ 15)
-numbers = (refl, refl, refl, refl, refl, refl, refl, refl, refl, refl, refl, refl, refl, refl, refl, refl)
+    × (numberOf Candidates ≡ 16)
+numbers = (refl, refl, refl, refl, refl, refl, refl, refl, refl, refl, refl, refl, refl, refl, refl, refl, refl)

@@ -3,7 +3,7 @@ use Prim.Native.Nat.{ℕ}
 use mathlib.Core.Bool.{Bool, cond}
 use lib.Dec.{eqb}
 use Rattle.refusals.specs.declared.Refusal.{Refusal}
-use Rattle.refusals.specs.declared.Refusal.the-variants.{Accepted, Lists, Rows, Space, Ticks, Hours, Window, Mark, NoPlan, NotPlan, Buffer, Form, Tape, FirstTick, Gap, NoRow}
+use Rattle.refusals.specs.declared.Refusal.the-variants.{Accepted, Lists, Rows, Space, Ticks, Hours, Window, Mark, NoPlan, NotPlan, Buffer, Form, Tape, FirstTick, Gap, NoRow, Candidates}
 use Rattle.refusals.specs.declared.Answer.{Answer}
 
 abbrev pub numberOf : Refusal → ℕ
@@ -23,6 +23,7 @@ numberOf Tape = 12
 numberOf FirstTick = 13
 numberOf Gap = 14
 numberOf NoRow = 15
+numberOf Candidates = 16
 
 -- what a call reports
 abbrev pub answered : Refusal → ℕ → Answer

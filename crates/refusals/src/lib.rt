@@ -20,6 +20,7 @@ pub enum Refusal {
     FirstTick,
     Gap,
     NoRow,
+    Candidates,
 }
 
 // What a call reports.
@@ -49,6 +50,7 @@ pub fn number(refusal: Refusal) -> u8
         Refusal::FirstTick => 13,
         Refusal::Gap => 14,
         Refusal::NoRow => 15,
+        Refusal::Candidates => 16,
     }
 }
 

@@ -1,10 +1,11 @@
 -- Laws of a table with a row more, or without one of its rows: which row stands where, what the checks say, and that a plan without a row is a plan of the table without it.
 use Prim.Native.Nat.{ℕ, zero, suc, _+_, _-_, _≤_, _<_}
 use mathlib.Core.Path.{_≡_, refl, sym, ap, subst, _∙_}
+use mathlib.Core.Logic.{_⊎_, inl, inr}
 use mathlib.Core.Bool.{Bool, true, false, cond}
 use mathlib.Core.List.{List, [], _∷_, _++_}
 use mathlib.Core.Option.{Option, none, some}
-use native.Mathlib.Nat.{le-refl}
+use native.Mathlib.Nat.{le-refl, eq-or-lt-of-le}
 use native.Mathlib.Omega.{arith}
 use borrow.Author.Tests.{eq-eqb, eqb-true}
 use lib.ListN.{length, length-append, List·getD-append}
@@ -18,7 +19,7 @@ use Rattle.refusals.specs.declared.Refusal.{Refusal}
 use Rattle.refusals.specs.declared.Refusal.the-variants.{Accepted}
 use Rattle.refusals.specs.Refusals.{numberOf, answered, passes, _then_}
 use Rattle.refusals.proofs.Refusals.{Passed, passed-accepted, then-next, then-assoc, then-passes}
-use Rattle.table.specs.Tables.{Table, rows, rowAt, Clash, Plan, Valid}
+use Rattle.table.specs.Tables.{Table, rows, rowAt, Clash, Plan, ValidRow, Valid}
 use Rattle.table.specs.Checks.{listsRefusal, settingRefusal, rowRefusal, looked, lookFrom, rowCheck, rowsLooked, tableLooked}
 use Rattle.table.specs.Planned.{spaceRefusal, checked, bestPlan, answering, given, planRefusal, planned}
 use Rattle.table.specs.Changes.{withRow, withoutRow}
@@ -52,6 +53,21 @@ module _ (t : Table) (new : Row) where
         (getD-at (t .starts) (new .start) [] 0 (rows t) refl j)
         (getD-at (t .ends) (new .end) [] 0 (rows t) e j)
         (getD-at (t .marks) (new .mark) [] 0 (rows t) m j)
+
+    -- what the checks leave known holds of the longer table
+    pub valid-with : Valid t → ValidRow (t .setting) new → rows t < maxRows → Valid (withRow t new)
+    valid-with v w h =
+        record {
+          few = omega (arith, rows-with);
+          each-end = omega (arith, length-more (t .ends) (new .end), rows-with);
+          each-mark = omega (arith, length-more (t .marks) (new .mark), rows-with);
+          setting = v .setting;
+          row = λ i b. go i (eq-or-lt-of-le (omega (arith, rows-with)));
+        }
+      where
+        go : (i : ℕ) → (i ≡ rows t) ⊎ (i < rows t) → ValidRow (t .setting) (rowAt (withRow t new) i)
+        go i (inl q) = rw (q, row-last) w
+        go i (inr q) = rw (row-before i q) (v .row i q)
 
 -- the rows before pass: the last of them is the one that is looked at
 look-last : (check : ℕ → Refusal) (i n : ℕ) → ((k : ℕ) → i ≤ k → k < i + n → Passed (check k)) → lookFrom check i (suc n) .refusal ≡ check (i + n)
@@ -91,19 +107,23 @@ planned-ends t before space = go (passes (checked t before space)) (bestPlan t)
     go false o = refl
 
 module _ (t : Table) (new : Row) (p : Passed (tableLooked t .refusal)) (room : rows t < maxRows) where
-  -- planning a table that passes its checks, with a row more: 3, then that row for 6 and 7, then 8
-  pub planned-with : (before : List ℕ) (space : ℕ) → length before ≡ rows (withRow t new)
-      → planned (withRow t new) before space .answer .refusal ≡ (spaceRefusal space then rowRefusal (t .setting) new then planRefusal (withRow t new))
+  -- the checks of a table that passes them, with a row more: 3, then that row for 6 and 7
+  pub checked-with : (before : List ℕ) (space : ℕ) → length before ≡ rows (withRow t new) → checked (withRow t new) before space ≡ (spaceRefusal space then rowRefusal (t .setting) new)
   unfolding checked
-  planned-with before space l =
+  checked-with before space l =
       let t′ = withRow t new in
       let r = rows-passed t (then-looked (settingRefusal (t .setting)) 0 (rowsLooked t) p .1) .0 in
       let lists : Passed (listsRefusal t′ before) =
       lengths-pass (rows t′) (length (t′ .ends)) (length (t′ .marks)) (length before) (omega (arith, rows-with t new))
       (omega (arith, length-more (t .ends) (new .end), rows-with t new, r .0)) (omega (arith, length-more (t .marks) (new .mark), rows-with t new, r .1)) l in
-      let c : checked t′ before space ≡ (spaceRefusal space then rowRefusal (t .setting) new) =
-      sym (then-next {a = listsRefusal t′ before} {r = listsRefusal t′ before} refl lists refl) ∙ ap (λ x. spaceRefusal space then x) (looked-with t new p) in
-      planned-ends t′ before space ∙ ap (λ x. x then planRefusal t′) c ∙ then-assoc (spaceRefusal space) (rowRefusal (t .setting) new) (planRefusal t′)
+      sym (then-next {a = listsRefusal t′ before} {r = listsRefusal t′ before} refl lists refl) ∙ ap (λ x. spaceRefusal space then x) (looked-with t new p)
+
+  -- and planning it: then 8
+  pub planned-with : (before : List ℕ) (space : ℕ) → length before ≡ rows (withRow t new)
+      → planned (withRow t new) before space .answer .refusal ≡ (spaceRefusal space then rowRefusal (t .setting) new then planRefusal (withRow t new))
+  planned-with before space l =
+      let t′ = withRow t new in
+      planned-ends t′ before space ∙ ap (λ x. x then planRefusal t′) (checked-with before space l) ∙ then-assoc (spaceRefusal space) (rowRefusal (t .setting) new) (planRefusal t′)
 
 -- ---- a row less
 

@@ -1,6 +1,6 @@
 -- A call that passes all checks before 8 has a valid table, and no check before 8 gives 8.
 use Prim.Native.Nat.{ℕ, zero, suc, _+_, _≤_, _<_}
-use mathlib.Core.Path.{_≡_, refl}
+use mathlib.Core.Path.{_≡_, refl, _∙_}
 use mathlib.Core.Logic.{_≢_, ⊎-elim}
 use mathlib.Core.Bool.{Bool, true, false, cond, _&&_}
 use mathlib.Core.List.{List}
@@ -8,7 +8,7 @@ use native.Mathlib.Omega.{arith}
 use native.Mathlib.Nat.{eq-or-lt-of-le}
 use lib.Dec.{leb, eqb}
 use lib.ListN.{length}
-use borrow.Author.Tests.{eqb-true, eqb-false, leb-true}
+use borrow.Author.Tests.{eq-eqb, eqb-true, eqb-false, leb-true}
 use Rattle.basics.proofs.Tests.{leb-iff, eqb-iff, and-iff}
 use Rattle.window.specs.declared.Kind.{Kind}
 use Rattle.window.specs.declared.Kind.the-variants.{Round, Run}
@@ -59,6 +59,14 @@ looked-passed check i (suc n) p k h l =
     let rest = looked-passed check (i + 1) n (f .1) k in
     ⊎-elim (λ q. rw (← q) (f .0)) (λ q. rest (omega arith) (omega arith)) (eq-or-lt-of-le h)
 
+-- and as many were looked at
+all-looked : (check : ℕ → Refusal) (i n : ℕ) → Passed (lookFrom check i n .refusal) → lookFrom check i n .rows ≡ i + n
+unfolding lookFrom
+all-looked check i zero p = omega arith
+all-looked check i (suc n) p =
+    let f = then-looked (check i) (i + 1) (lookFrom check (i + 1) n) p in
+    rw (eq-eqb (numberOf (check i)) 0 (f .0)) (all-looked check (i + 1) n (f .1) ∙ omega arith)
+
 module _ (S : Setting) where
   pub setting-passed : Passed (settingRefusal S) → ValidSetting S
   unfolding settingRefusal ticksRefusal gapRefusal
@@ -71,7 +79,7 @@ module _ (S : Setting) where
       let g = asked-passed gap Gap (omega arith) (then-passed hours (asked gap Gap) (f .1) .1) in
       record { ticks-least = h .0; ticks-most = h .1; gap-most = leb-true (S .gap) maxGap g }
 
-  row-passed : (row : Row) → Passed (rowRefusal S row) → ValidRow S row
+  pub row-passed : (row : Row) → Passed (rowRefusal S row) → ValidRow S row
   unfolding rowRefusal
   row-passed row p =
       let w = isWindow (S .kind) (S .ticks) (row .start) (row .end) in
@@ -103,6 +111,14 @@ module _ (t : Table) where
         setting = setting-passed (t .setting) (f .0);
         row = λ i h. row-passed (t .setting) (rowAt t i) (r .1 i h);
       }
+
+  -- a table that passes its checks was looked at whole
+  pub table-looked : Passed (tableLooked t .refusal) → tableLooked t .rows ≡ rows t
+  unfolding tableLooked rowsLooked
+  table-looked p =
+      let f = then-looked (settingRefusal (t .setting)) 0 (rowsLooked t) p in
+      let g = cond-passed (isEven t) (lookFrom (rowCheck t) 0 (rows t)) (looked Lists 0) (omega arith) (f .1) in
+      rw (eq-eqb (numberOf (settingRefusal (t .setting))) 0 (f .0), g .0) (all-looked (rowCheck t) 0 (rows t) (g .1) ∙ omega arith)
 
   pub checked-valid : (labels : List ℕ) (space : ℕ) → Passed (checked t labels space) → Valid t × (length labels ≡ rows t)
   unfolding checked
@@ -153,11 +169,11 @@ module _ (t : Table) where
   unfolding rowsLooked
   rows-8 = cond-8 (isEven t) _ (looked Lists 0) (look-8 (rowCheck t) (λ i. row-8 (t .setting) (rowAt t i)) 0 (rows t)) (record { not = λ e. omega arith })
 
-  table-8 : Not8 (tableLooked t .refusal)
+  pub table-8 : Not8 (tableLooked t .refusal)
   unfolding tableLooked
   table-8 = cond-8 (passes (settingRefusal (t .setting))) (rowsLooked t) (looked (settingRefusal (t .setting)) 0) rows-8 (setting-8 (t .setting))
 
-  lists-8 : (labels : List ℕ) → Not8 (listsRefusal t labels)
+  pub lists-8 : (labels : List ℕ) → Not8 (listsRefusal t labels)
   unfolding lengthsRefusal
   lists-8 labels =
       then-either Not8

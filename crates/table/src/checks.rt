@@ -112,7 +112,8 @@ pub fn check_row(setting: Setting, row: Row) -> Refusal
     Refusal::Accepted
 }
 
-fn looked_at(refusal: Refusal, rows: usize) -> Looked
+// What the checks report.
+pub fn looked_at(refusal: Refusal, rows: usize) -> Looked
     ensures { λ r. ⌜ r ≡ looked refusal rows ⌝ }
 {
     Looked { refusal, rows }

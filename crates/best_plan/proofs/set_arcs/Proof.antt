@@ -1,12 +1,12 @@
 -- `best_plan::set_arcs` meets its contract: the arcs and permissions of the rows passed are written.
 use Rattle.best_plan.proofs.Rows.{arcs-set}
 use Rattle.basics.proofs.Filling.{Filled, filled-none, filled-more}
-use Rattle.best_plan.specs.declared.Arc.{Arc}
+use Rattle.window.specs.declared.Row.{Row}
 use Rattle.best_plan.specs.Rows.{arcOf, permissionOf}
 use Rattle.table.specs.Tables.{table, rowAt}
 use lib.ListN.{length}
 use borrow.Author.Needs.{needs}
-use mathlib.Core.Path.{ap, _∙_}
+use mathlib.Core.Path.{ap}
 use Prim.Native.Nat.{_≤_, _-_}
 use native.Mathlib.Omega.{arith}
 use Rattle.best_plan.proofs.set_arcs.Statement.{statement}
@@ -31,28 +31,14 @@ row-at-requires c κs =
     let v = c .before .before .before .before .before .before .before .before .pre .0 in
     record { each-end = v .each-end; each-mark = v .each-mark; below = c .loop-test .taken }
 
-arc-of-requires : tie.Need-arc-of-requires Inv-loop μ-loop
-arc-of-requires c κs =
-    let valid = c .before .before .before .before .before .before .before .before .before .pre .0 in
-    rw (c .row-at .ensures) (record { setting = valid .setting; valid = valid .row (c .before .before .loop .i) (c .before .loop-test .taken) })
-
-mul-arc-starts : tie.Need-mul-arc-starts Inv-loop μ-loop
-mul-arc-starts c = omega (arith, c .before .before .before .before .before .before .before .before .before .before .pre .1 .each-start)
-
-slice-write-arc-starts : tie.Need-slice-write-arc-starts Inv-loop μ-loop
-slice-write-arc-starts c = omega (arith, c .before .before .before .before .before .before .before .before .before .before .pre .1 .each-start, c .before .before .before .loop .inv .1 .each)
-
-mul-arc-lengths : tie.Need-mul-arc-lengths Inv-loop μ-loop
-mul-arc-lengths c = omega (arith, c .before .before .before .before .before .before .before .before .before .before .pre .1 .each-length)
-
-slice-write-arc-lengths : tie.Need-slice-write-arc-lengths Inv-loop μ-loop
-slice-write-arc-lengths c = omega (arith, c .before .before .before .before .before .before .before .before .before .before .pre .1 .each-length, c .before .before .before .loop .inv .2 .each)
-
-permission-requires : tie.Need-permission-requires Inv-loop μ-loop
-permission-requires c κs = search needs
-
-slice-write-perms : tie.Need-slice-write-perms Inv-loop μ-loop
-slice-write-perms c = omega (arith, c .before .before .before .before .before .before .before .before .before .before .before .pre .1 .each-perm, c .before .before .before .before .loop .inv .3 .each)
+set-arc-requires : tie.Need-set-arc-requires Inv-loop μ-loop
+set-arc-requires c κs =
+    let p = c .before .before .before .before .before .before .before .before .before .before .before .before .pre in
+    let l = c .before .before .before .before .before .loop .inv in
+    let h = c .before .before .before .before .loop-test .taken in (
+      rw (c .before .before .before .row-at .ensures) (record { setting = p .0 .setting; valid = p .0 .row (c .before .before .before .before .before .loop .i) h }),
+      record { start = omega (arith, p .1 .each-start, l .1 .each); ticks = omega (arith, p .1 .each-length, l .2 .each); perm = omega (arith, p .1 .each-perm, l .3 .each) },
+    )
 
 add-i : tie.Need-add-i Inv-loop μ-loop
 add-i c = omega arith
@@ -62,15 +48,16 @@ loop-less c = omega arith
 
 loop-again : tie.Need-loop-again Inv-loop μ-loop
 loop-again c =
-    let l = c .before .before .before .before .loop in
-    let lists = c .before .before .before .before .before .before .before .before .before .before .before .pre .1 in
-    let S = c .before .before .before .before .before .before .before .before .before .before .before .args .setting in
-    let row = c .before .before .row-at .ensures in
-    let arc = c .before .arc-of .ensures ∙ ap (arcOf S) row in (
+    let l = c .before .before .before .before .before .before .before .before .before .before .before .before .loop in
+    let lists = c .before .before .before .before .before .before .before .before .before .before .before .before .before .before .before .before .before .before .before .pre .1 in
+    let S = c .before .before .before .before .before .before .before .before .before .before .before .before .before .before .before .before .before .before .before .args .setting in
+    let row = c .before .before .before .before .before .before .before .before .before .before .row-at .ensures in
+    let stored = c .before .before .before .before .before .before .set-arc .ensures in
+    rw (stored .0, stored .1 .0, stored .1 .1) (
       omega arith,
-      filled-more (l .inv .1) (omega (arith, lists .each-start)) (ap (λ (a : Arc). a .start) arc),
-      filled-more (l .inv .2) (omega (arith, lists .each-length)) (ap (λ (a : Arc). a .length) arc),
-      filled-more (l .inv .3) (omega (arith, lists .each-perm)) (c .permission .ensures ∙ ap (permissionOf S) row),
+      filled-more (l .inv .1) (omega (arith, lists .each-start)) (ap (λ (r : Row). arcOf S r .start) row),
+      filled-more (l .inv .2) (omega (arith, lists .each-length)) (ap (λ (r : Row). arcOf S r .length) row),
+      filled-more (l .inv .3) (omega (arith, lists .each-perm)) (ap (permissionOf S) row),
     )
 
 same-length : tie.Need-same-length Inv-loop μ-loop
@@ -95,13 +82,7 @@ set-arcs-spec =
     μ-loop
     loop-holds
     row-at-requires
-    arc-of-requires
-    mul-arc-starts
-    slice-write-arc-starts
-    mul-arc-lengths
-    slice-write-arc-lengths
-    permission-requires
-    slice-write-perms
+    set-arc-requires
     add-i
     loop-less
     loop-again

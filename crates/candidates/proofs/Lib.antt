@@ -1,0 +1,3 @@
+-- Theorems about candidates.
+pub mod Trying
+pub mod Answering
