@@ -31,7 +31,7 @@ module _ (t : Table) (c : CandidateLists) where
   abbrev reports : Looked → Refusal → Looked
   reports l r = cond (passes (l .refusal)) (looked r (cond (passes r) (rowsWith t c) (rows t))) l
 
-  reports-so : tableTried t c ≡ reports (tableLooked t) (planRefusal t)
+  pub reports-so : tableTried t c ≡ reports (tableLooked t) (planRefusal t)
   unfolding tableTried
   reports-so = refl
 
@@ -55,7 +55,7 @@ module _ (t : Table) (c : CandidateLists) where
       go (some plan) n = refl
 
   module _ (p : Passed (tableLooked t .refusal)) where
-    planning-reported : tableTried t c ≡ looked (planRefusal t) (cond (passes (planRefusal t)) (rowsWith t c) (rows t))
+    pub planning-reported : tableTried t c ≡ looked (planRefusal t) (cond (passes (planRefusal t)) (rowsWith t c) (rows t))
     planning-reported = reports-so ∙ rw (eq-eqb (numberOf (tableLooked t .refusal)) 0 p) refl
 
     pub table-8-reported : countOf (bestPlan t) ≡ 0 → tableTried t c ≡ looked NoPlan (rows t)
@@ -118,7 +118,7 @@ module _ (t : Table) (c : CandidateLists) (numbers counts space : List ℕ) wher
   abbrev sixteen : Refusal
   sixteen = candidatesRefusal (size c) (length (c .ends)) (length (c .marks)) (length numbers) (length counts)
 
-  lent-so : lent ≡ (lists then spaceRefusal (length space) then sixteen)
+  pub lent-so : lent ≡ (lists then spaceRefusal (length space) then sixteen)
   unfolding lentRefusal
   lent-so = refl
 

@@ -1,3 +1,6 @@
 -- Theorems about candidates.
 pub mod Trying
 pub mod Answering
+pub mod Hearing
+pub mod Request7
+pub mod Bench

@@ -37,7 +37,7 @@ planning t = planned t (replicate (rows t) 0) spaceBytes .answer
 
 -- "For each, answer what planning the table with it as an added must row .. would give: number and count."
 unfoldable pub tried : Table → Row → Tried
-unfolding planning
+unfolding planning raised
 tried t candidate = record { number = numberOf (planning (tableWith t candidate) .refusal); count = planning (tableWith t candidate) .count }
 
 -- ---- all of them

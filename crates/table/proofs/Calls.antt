@@ -1,20 +1,21 @@
 -- What a planner call gives, taken apart; and what a refused one leaves.
-use Prim.Native.Nat.{ℕ}
-use mathlib.Core.Path.{_≡_, refl, ap}
+use Prim.Native.Nat.{ℕ, _≤_}
+use mathlib.Core.Path.{_≡_, refl, sym, ap, _∙_}
 use mathlib.Core.Bool.{Bool, true, false, cond}
-use mathlib.Core.List.{List}
+use mathlib.Core.List.{List, []}
 use mathlib.Core.Option.{Option, none, some}
 use native.Mathlib.Omega.{arith}
-use borrow.Author.Tests.{ne-eqb, eqb-true, eqb-false}
+use borrow.Author.Tests.{ne-eqb, eqb-true, eqb-false, le-leb}
 use lib.ListN.{length}
 use Rattle.labels.specs.Labels.{heard}
 use Rattle.refusals.specs.declared.Refusal.{Refusal}
 use Rattle.refusals.specs.declared.Refusal.the-variants.{Accepted}
 use Rattle.refusals.specs.declared.Answer.{Answer}
-use Rattle.refusals.specs.Refusals.{numberOf, answered, passes}
+use Rattle.refusals.specs.Refusals.{numberOf, answered, passes, _then_}
 use Rattle.refusals.proofs.Refusals.{Passed}
-use Rattle.table.specs.Tables.{Table, Valid}
-use Rattle.table.specs.Planned.{checked, bestPlan, Planned, answering, given, planned, spaceAfter, PlanCalled, called, planCall}
+use Rattle.table.specs.Tables.{Table, rows, Valid}
+use Rattle.table.specs.Checks.{lengthsRefusal, tableLooked}
+use Rattle.table.specs.Planned.{spaceBytes, spaceRefusal, checked, bestPlan, Planned, answering, given, planned, spaceAfter, PlanCalled, called, planCall}
 use Rattle.table.proofs.Checked.{Not8, checked-valid}
 
 module _ (t : Table) (before space : List ℕ) {answer : Answer} {labels space′ : List ℕ} (e : called answer labels space′ ≡ planCall t before space) where
@@ -69,3 +70,26 @@ refused-count t before space = go (passes (checked t before space)) (bestPlan t)
     go true none n = refl
     go true (some plan) n = absurd (n refl)
     go false o n = refl
+
+-- ---- what a call answers depends on the length of the label list alone, where the working space suffices
+
+planned-answer : (t : Table) (before : List ℕ) (space : ℕ) → planned t before space .answer ≡ cond (passes (checked t before space)) (given (bestPlan t) [] .answer) (answered (checked t before space) 0)
+unfolding planned given
+planned-answer t before space = go (passes (checked t before space)) (bestPlan t)
+  where
+    go : (x : Bool) (o : Option (List ℕ)) → cond x (given o before) (answering (answered (checked t before space) 0) before) .answer ≡ cond x (given o [] .answer) (answered (checked t before space) 0)
+    go true none = refl
+    go true (some plan) = refl
+    go false o = refl
+
+pub answer-anyhow : (t : Table) (before before′ : List ℕ) (space space′ : ℕ) → length before ≡ length before′ → spaceBytes ≤ space → spaceBytes ≤ space′ → planned t before space .answer ≡ planned t before′ space′ .answer
+unfolding checked spaceRefusal
+answer-anyhow t before before′ space space′ l a b =
+    planned-answer t before space
+    ∙ ap (λ r. cond (passes r) (given (bestPlan t) [] .answer) (answered r 0)) checks
+    ∙ sym (planned-answer t before′ space′)
+  where
+    checks : checked t before space ≡ checked t before′ space′
+    checks =
+        rw (le-leb spaceBytes space a, le-leb spaceBytes space′ b)
+        (ap (λ n. lengthsRefusal (rows t) (length (t .ends)) (length (t .marks)) n then tableLooked t .refusal) l)

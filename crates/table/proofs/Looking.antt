@@ -1,6 +1,7 @@
--- Laws of the checks of the rows: none looked at, one row more, done.
-use Prim.Native.Nat.{ℕ, suc, _+_, _-_, _≤_, _<_}
-use mathlib.Core.Path.{_≡_, refl}
+-- Laws of the checks of the rows: none looked at, one row more, done; and where they stop.
+use Prim.Native.Nat.{ℕ, zero, suc, _+_, _-_, _≤_, _<_}
+use mathlib.Core.Path.{_≡_, refl, sym, subst}
+use native.Mathlib.Numerals.{add-one}
 use native.Mathlib.Omega.{arith}
 use lib.ListN.{length}
 use borrow.Author.Tests.{eq-eqb, ne-eqb}
@@ -45,3 +46,13 @@ module _ (t : Table) where
   pub ahead-done : (i : ℕ) → rows t ≤ i → Ahead i → looked Accepted i ≡ rowsLooked t
   unfolding lookFrom
   ahead-done i h a = let z : rows t - i ≡ 0 = omega arith in rw (a, z) refl
+
+  -- "if the table stops at row k": the rows before it pass, and it is refused
+  pub stops-at : length (t .ends) ≡ rows t → length (t .marks) ≡ rows t → (k : ℕ) → k < rows t → ((i : ℕ) → i < k → numberOf (rowCheck t i) ≡ 0) → (numberOf (rowCheck t k) ≡ 0 → ⊥)
+      → rowsLooked t ≡ looked (rowCheck t k) (k + 1)
+  stops-at e m k h before n = sym (ahead-refused k (rowCheck t k) h (reached k (omega arith) before) refl n)
+    where
+      reached : (i : ℕ) → i ≤ rows t → ((j : ℕ) → j < i → numberOf (rowCheck t j) ≡ 0) → Ahead i
+      reached zero l f = ahead-all e m
+      reached (suc i) l f =
+          subst Ahead (add-one i) (ahead-more i (omega arith) (reached i (omega arith) (λ j b. f j (omega arith))) (f i (omega arith)))
