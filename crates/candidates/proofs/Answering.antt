@@ -21,7 +21,7 @@ use Rattle.table.specs.Planned.{spaceBytes, spaceRefusal, bestPlan, given, plan
 use Rattle.table.proofs.Checked.{Not8, asked-8, lists-8, table-8, lists-passed}
 use Rattle.table.proofs.Calls.{space-kept}
 use Rattle.best_plan.specs.Rows.{countOf}
-use Rattle.candidates.specs.Tried.{CandidateLists, size, numbersTried, countsTried, candidatesRefusal, lentRefusal, rowsWith, tableTried, reported, CandidatesCalled, called, answers, candidatesCall}
+use Rattle.candidates.specs.Tried.{CandidateLists, size, numbersTried, countsTried, candidatesRefusal, answersRefusal, tableRefusal, lentRefusal, rowsWith, tableTried, reported, CandidatesCalled, called, answers, candidatesCall}
 use Rattle.candidates.specs.Lent.{CandidatesLent, TableLent, readBeside}
 
 -- ---- what is reported of the table
@@ -88,13 +88,10 @@ module _ (t : Table) (c : CandidateLists) (numbers counts space : List ℕ) wher
   -- a refusal other than 8
   pub refused-so : (l : Looked) → (numberOf (l .refusal) ≡ 0 → ⊥) → Not8 (l .refusal) → called l numbers counts space ≡ gives l
   unfolding answers
-  refused-so l n h = ap (called l numbers counts) (space-kept (l .refusal) space n h) ∙ go
+  refused-so l n h = ap (called l numbers counts) (space-kept (l .refusal) space n h) ∙ sym (refused-part _ _)
     where
-      after : List ℕ
-      after = spaceAfter (l .refusal) space
-
-      go : called l numbers counts after ≡ cond (passes (l .refusal)) (called l (numbersTried t c) (countsTried t c) after) (called l numbers counts after)
-      go = rw (ne-eqb (numberOf (l .refusal)) 0 n) refl
+      refused-part : (a b : CandidatesCalled) → cond (passes (l .refusal)) a b ≡ b
+      refused-part a b = rw (ne-eqb (numberOf (l .refusal)) 0 n) refl
 
   -- 8
   pub no-plan-so : (n : ℕ) {space′ : List ℕ} → space′ ≡ spaceAfter NoPlan space → called (looked NoPlan n) numbers counts space′ ≡ gives (looked NoPlan n)
@@ -113,10 +110,10 @@ module _ (t : Table) (c : CandidateLists) (numbers counts space : List ℕ) wher
   lent = lentRefusal t c (length numbers) (length counts) (length space)
 
   abbrev lists : Refusal
-  lists = listsRefusal t (t .starts)
+  lists = tableRefusal t
 
   abbrev sixteen : Refusal
-  sixteen = candidatesRefusal (size c) (length (c .ends)) (length (c .marks)) (length numbers) (length counts)
+  sixteen = answersRefusal c (length numbers) (length counts)
 
   pub lent-so : lent ≡ (lists then spaceRefusal (length space) then sixteen)
   unfolding lentRefusal

@@ -35,7 +35,7 @@ use Rattle.table.proofs.Changes.{rows-with, row-last, planned-ends}
 use Rattle.best_plan.specs.Rows.{countOf}
 use Rattle.planner.proofs.Answering.{table-checked}
 use Rattle.candidates.specs.declared.Tried.{Tried}
-use Rattle.candidates.specs.Tried.{mustRow, tableWith, planning, tried, CandidateLists, size, candidateAt, numbersTried, countsTried, candidatesRefusal, lentRefusal, rowsWith, tableTried, reported, CandidatesCalled, called, answers, candidatesCall}
+use Rattle.candidates.specs.Tried.{mustRow, tableWith, planning, tried, CandidateLists, size, candidateAt, numbersTried, countsTried, answersRefusal, tableRefusal, lentRefusal, rowsWith, tableTried, reported, CandidatesCalled, called, answers, candidatesCall}
 use Rattle.candidates.specs.Lent.{TableLent}
 use Rattle.candidates.proofs.Trying.{answer, tried-full}
 use Rattle.candidates.proofs.Answering.{reports-so, planning-reported, table-stops, table-8-reported, lent-so, table-lent}
@@ -201,7 +201,7 @@ module _ (t : Table) (c : CandidateLists) (numbers counts space : List ℕ) wher
 
   -- 1, 2, 3 and 16; 4, 5 and 14; the rows for 6 and 7; 8
   pub order : report .refusal
-      ≡ ((listsRefusal t (t .starts) then spaceRefusal (length space) then candidatesRefusal (size c) (length (c .ends)) (length (c .marks)) (length numbers) (length counts))
+      ≡ ((tableRefusal t then spaceRefusal (length space) then answersRefusal c (length numbers) (length counts))
       then settingRefusal (t .setting) then rowsLooked t .refusal then planRefusal t)
   order =
       report-order
@@ -229,7 +229,7 @@ module _ (t : Table) (c : CandidateLists) (numbers counts space : List ℕ) wher
 
     known : TableLent t space
     known =
-        let f = then-passed (listsRefusal t (t .starts)) _ (ap numberOf (sym (lent-so t c numbers counts space)) ∙ p) in
+        let f = then-passed (tableRefusal t) _ (ap numberOf (sym (lent-so t c numbers counts space)) ∙ p) in
         table-lent t c numbers counts space (f .0) (space-enough (then-passed (spaceRefusal (length space)) _ (f .1) .0))
 
     -- "IF THE TABLE STOPS AT ROW K it is k+1"

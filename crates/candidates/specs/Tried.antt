@@ -71,13 +71,18 @@ unfoldable pub candidatesRefusal : ℕ → ℕ → ℕ → ℕ → ℕ → Refus
 candidatesRefusal starts ends marks numbers counts =
     asked (eqb ends starts && eqb marks starts && eqb numbers starts && eqb counts starts && leb starts 64) Candidates
 
--- 1 and 2 of the table, for which no labels are lent; 3; and 16 "after 3"
+-- the same of the candidates and their lists of answers, which are so long
+abbrev pub answersRefusal : CandidateLists → ℕ → ℕ → Refusal
+answersRefusal c numbers counts = candidatesRefusal (size c) (length (c .ends)) (length (c .marks)) numbers counts
+
+-- 1 and 2 of a table for which no labels are lent
+abbrev pub tableRefusal : Table → Refusal
+tableRefusal t = lengthsRefusal (rows t) (length (t .ends)) (length (t .marks)) (rows t)
+
+-- 16 is looked at "after 3"
 unfoldable pub lentRefusal : Table → CandidateLists → ℕ → ℕ → ℕ → Refusal
 unfolding lengthsRefusal spaceRefusal candidatesRefusal
-lentRefusal t c numbers counts space =
-    lengthsRefusal (rows t) (length (t .ends)) (length (t .marks)) (rows t)
-    then spaceRefusal space
-    then candidatesRefusal (size c) (length (c .ends)) (length (c .marks)) numbers counts
+lentRefusal t c numbers counts space = tableRefusal t then spaceRefusal space then answersRefusal c numbers counts
 
 -- "the reported count of rows looked at is table rows plus candidates. Beside a full table the candidates go unread, .. and the reported count is 64."
 abbrev pub rowsWith : Table → CandidateLists → ℕ

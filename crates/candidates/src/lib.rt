@@ -205,8 +205,8 @@ fn try_table(
         return looked;
     }
     let rows = looked.rows;
-    let best = best_plan::count_checked(setting, starts, ends, marks, space);
-    if best == 0 {
+    let table_best = best_plan::count_checked(setting, starts, ends, marks, space);
+    if table_best == 0 {
         best_plan::clear_space(space);
         return table::checks::looked_at(Refusal::NoPlan, rows);
     }

@@ -13,7 +13,7 @@ number-requires c κs = search needs
 
 returns : tie.Need-returns
 unfolding triedOf
-returns c = rw (c .before .if1 .taken, c .number .ensures) refl
+returns c = let none : c .before .before .args .best ≡ 0 = omega (arith, c .before .if1 .taken) in rw (none, c .number .ensures) refl
 
 sub-t5 : tie.Need-sub-t5
 sub-t5 c = search needs

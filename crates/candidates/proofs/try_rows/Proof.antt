@@ -28,7 +28,7 @@ loop-holds : tie.Need-loop-holds Inv-loop μ-loop
 loop-holds c = (omega arith, filled-none _ _, filled-none _ _, refl, refl)
 
 row-at-requires : tie.Need-row-at-requires Inv-loop μ-loop
-row-at-requires c κs = let p = c .before .before .before .before .before .before .before .before .before .before .before .pre .1 in record { each-end = p .each-end; each-mark = p .each-mark; below = c .loop-test .taken }
+row-at-requires c κs = let p = c .before .before .before .before .before .before .before .before .before .before .before .pre .1 in record { each-end = p .each-end; each-mark = p .each-mark; below = omega (arith, c .loop-test .taken) }
 
 try-row-requires : tie.Need-try-row-requires Inv-loop μ-loop
 try-row-requires c κs =
