@@ -41,7 +41,7 @@ module _ (t : Table) (candidate : Row) where
   -- a candidate's "mark is checked as lent and then raised": raised first, it would be refused alike
   pub checked-as-lent : rowRefusal (t .setting) (mustRow candidate) ≡ rowRefusal (t .setting) candidate
   unfolding rowRefusal
-  checked-as-lent = simp (raised-within (candidate .mark))
+  checked-as-lent = rw (raised-within (candidate .mark)) refl
 
   module _ (p : Passed (tableLooked t .refusal)) (below : rows t < maxRows) where
     checks : checked (tableWith t candidate) labels spaceBytes ≡ rowRefusal (t .setting) candidate
