@@ -21,7 +21,7 @@ use Rattle.table.specs.Planned.{spaceBytes, spaceRefusal, bestPlan, given, plan
 use Rattle.table.proofs.Checked.{Not8, asked-8, lists-8, table-8, lists-passed}
 use Rattle.table.proofs.Calls.{space-kept}
 use Rattle.best_plan.specs.Rows.{countOf}
-use Rattle.candidates.specs.Tried.{CandidateLists, size, numbersTried, countsTried, candidatesRefusal, answersRefusal, tableRefusal, lentRefusal, rowsWith, tableTried, reported, CandidatesCalled, called, answers, candidatesCall}
+use Rattle.candidates.specs.Tried.{maxCandidates, CandidateLists, size, numbersTried, countsTried, candidatesRefusal, answersRefusal, tableRefusal, lentRefusal, rowsWith, tableTried, reported, CandidatesCalled, called, answers, candidatesCall}
 use Rattle.candidates.specs.Lent.{CandidatesLent, TableLent, readBeside}
 
 -- ---- what is reported of the table
@@ -68,7 +68,7 @@ module _ (t : Table) (c : CandidateLists) where
   pub rows-read : rows t + readBeside t c ≡ rowsWith t c
   rows-read = go (eqb (rows t) maxRows) refl
     where
-      go : (x : Bool) → eqb (rows t) maxRows ≡ x → rows t + cond x 0 (size c) ≡ cond x 64 (rows t + size c)
+      go : (x : Bool) → eqb (rows t) maxRows ≡ x → rows t + cond x 0 (size c) ≡ cond x maxRows (rows t + size c)
       go true e = omega (arith, eqb-true (rows t) maxRows e)
       go false e = refl
 
@@ -135,7 +135,7 @@ module _ (t : Table) (c : CandidateLists) (numbers counts space : List ℕ) wher
   lent-8 =
       then-either Not8 (lists-8 t (t .starts))
       (then-either Not8 (asked-8 (leb spaceBytes (length space)) {r = Space} (record { not = λ e. omega arith }))
-      (asked-8 (eqb (length (c .ends)) (size c) && eqb (length (c .marks)) (size c) && eqb (length numbers) (size c) && eqb (length counts) (size c) && leb (size c) 64) {r = Candidates} (record { not = λ e. omega arith })))
+      (asked-8 (eqb (length (c .ends)) (size c) && eqb (length (c .marks)) (size c) && eqb (length numbers) (size c) && eqb (length counts) (size c) && leb (size c) maxCandidates) {r = Candidates} (record { not = λ e. omega arith })))
 
   -- a check of what is lent refuses: no row was looked at
   pub lent-refused : (r : Refusal) → r ≡ lent → (numberOf r ≡ 0 → ⊥) → called (looked r 0) numbers counts space ≡ candidatesCall t c numbers counts space
@@ -163,8 +163,8 @@ module _ (t : Table) (c : CandidateLists) (numbers counts space : List ℕ) wher
   unfolding candidatesRefusal
   candidates-lent p =
       let n = size c in
-      let ok = eqb (length (c .ends)) n && eqb (length (c .marks)) n && eqb (length numbers) n && eqb (length counts) n && leb n 64 in
+      let ok = eqb (length (c .ends)) n && eqb (length (c .marks)) n && eqb (length numbers) n && eqb (length counts) n && leb n maxCandidates in
       let f =
-      and-iff (and-iff (and-iff (and-iff (eqb-iff (length (c .ends)) n) (eqb-iff (length (c .marks)) n)) (eqb-iff (length numbers) n)) (eqb-iff (length counts) n)) (leb-iff n 64)
+      and-iff (and-iff (and-iff (and-iff (eqb-iff (length (c .ends)) n) (eqb-iff (length (c .marks)) n)) (eqb-iff (length numbers) n)) (eqb-iff (length counts) n)) (leb-iff n maxCandidates)
       .0 (asked-passed ok Candidates (omega arith) p) in
       record { few = f .1; each-end = f .0 .0 .0 .0; each-mark = f .0 .0 .0 .1; each-number = f .0 .0 .1; each-count = f .0 .1 }

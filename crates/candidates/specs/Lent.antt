@@ -12,11 +12,11 @@ use Rattle.table.specs.Tables.{Table, rows}
 use Rattle.table.specs.Checks.{tableLooked}
 use Rattle.table.specs.Planned.{spaceBytes}
 use Rattle.candidates.specs.declared.Tried.{Tried}
-use Rattle.candidates.specs.Tried.{CandidateLists, size}
+use Rattle.candidates.specs.Tried.{maxCandidates, CandidateLists, size}
 
 -- candidates and lists for their answers that passed check 16
 pub record CandidatesLent (c : CandidateLists) (numbers counts : List ℕ) : Type 0 where
-  pub few : size c ≤ 64
+  pub few : size c ≤ maxCandidates
   pub each-end : length (c .ends) ≡ size c
   pub each-mark : length (c .marks) ≡ size c
   pub each-number : length numbers ≡ size c

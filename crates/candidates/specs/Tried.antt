@@ -42,7 +42,11 @@ tried t candidate = record { number = numberOf (planning (tableWith t candidate)
 
 -- ---- all of them
 
--- "up to 64 candidates, each with a mark": three lists, as a table's rows are lent
+-- "up to 64 candidates"
+abbrev pub maxCandidates : ℕ
+maxCandidates = 64
+
+-- "each with a mark": three lists, as a table's rows are lent
 pub record CandidateLists : Type 0 where
   pub starts : List ℕ
   pub ends : List ℕ
@@ -69,7 +73,7 @@ countsTried t c = listOf (size c) (λ j. tried t (candidateAt c j) .count)
 -- "16, candidate and answer lists of unequal length or beyond 64": by the lengths of starts, ends, marks, numbers and counts
 unfoldable pub candidatesRefusal : ℕ → ℕ → ℕ → ℕ → ℕ → Refusal
 candidatesRefusal starts ends marks numbers counts =
-    asked (eqb ends starts && eqb marks starts && eqb numbers starts && eqb counts starts && leb starts 64) Candidates
+    asked (eqb ends starts && eqb marks starts && eqb numbers starts && eqb counts starts && leb starts maxCandidates) Candidates
 
 -- the same of the candidates and their lists of answers, which are so long
 abbrev pub answersRefusal : CandidateLists → ℕ → ℕ → Refusal
@@ -86,7 +90,7 @@ lentRefusal t c numbers counts space = tableRefusal t then spaceRefusal space th
 
 -- "the reported count of rows looked at is table rows plus candidates. Beside a full table the candidates go unread, .. and the reported count is 64."
 abbrev pub rowsWith : Table → CandidateLists → ℕ
-rowsWith t c = cond (eqb (rows t) maxRows) 64 (rows t + size c)
+rowsWith t c = cond (eqb (rows t) maxRows) maxRows (rows t + size c)
 
 -- "If the table stops at row k it is k+1, and 0 if refused sooner. A table without a plan is refused 8, its count being its rows alone."
 unfoldable pub tableTried : Table → CandidateLists → Looked
