@@ -36,11 +36,13 @@ enum hub_refusal {
     HUB_TAPE = 12,       /* not a plan tape that the writer can write, for any table and labels */
     HUB_FIRST_TICK = 13, /* first tick of a player not below the tape's ticks */
     HUB_GAP = 14,        /* gap above 600 */
-    HUB_NO_ROW = 15      /* row to be withdrawn not in the held table */
+    HUB_NO_ROW = 15,     /* row to be withdrawn not in the held table */
+    HUB_CANDIDATES = 16  /* lists of candidates and answers differ in length, or have more than 64 places */
 };
 
 enum {
     HUB_MOST_ROWS = 64,
+    HUB_MOST_CANDIDATES = 64,
     HUB_MOST_GAP = 600,
     HUB_SPACE_BYTES = 16384,    /* working space of the planner */
     HUB_PLAN_TAPE_BYTES = 392,  /* the longest plan tape: 8 + 6 * 64 */
@@ -290,6 +292,50 @@ static inline struct hub_answer hub_table_withdraw(struct hub_held_table *table,
                                                       HUB_MOST_ROWS, row, space, space_length);
     return hub_table_changed(table, change);
 }
+
+/* What trying candidates reports: the refusal, and how many rows were looked at, of the table and of the candidates. A refusal can have looked at some, too. */
+struct hub_tried {
+    uint8_t refusal;
+    size_t rows;
+};
+
+/* Tries candidate windows against the table of a round, up to HUB_MOST_CANDIDATES of them: a window and a mark at each place of the three candidate lists.
+ *
+ * Each candidate is tried alone. Its answer, at its place of numbers and counts, is what hub_plan_round would give for the table with the candidate added as its last row, as one
+ * that must be heard: the refusal's number, 0 for accepted, and the count. Its mark is checked as it is lent, and 0, 2 and 4 then stand for 1, 3 and 5 (HUB_MUST, HUB_MUST_1,
+ * HUB_MUST_2). So the number is 6 or 7 where the candidate fails that check, 8 where no plan has it beside the rows that must be heard, both with count 0, and else 0 with the
+ * count of the plan, the candidate included.
+ *
+ * Accepted: every place of numbers and counts is filled, and the rows looked at are those of the table and the candidates. A table of 64 rows has no place for another: it is
+ * checked and planned like any other, but the candidates go unread, each is given 2 with count 0, and the rows looked at are 64.
+ * A refusal leaves numbers and counts untouched; the rows looked at are k + 1 where row k of the table is refused 6 or 7, all rows of the table on 8, and 0 on any other. Refusal
+ * 8 exactly if the table alone has no plan.
+ * The first HUB_SPACE_BYTES of the working space are cleared where the call is accepted and on 8, untouched otherwise; bytes beyond are always untouched. What numbers, counts and
+ * working space held before makes no difference.
+ * Order: 1 (starts, ends and marks), 2, 3, 16, 4, 14, the table's rows from 0, each for 6 and then 7, then 8. */
+struct hub_tried hub_try_candidates_round(uint16_t ticks, uint16_t gap,
+                                          const uint16_t *starts, size_t starts_length,
+                                          const uint16_t *ends, size_t ends_length,
+                                          const uint8_t *marks, size_t marks_length,
+                                          const uint16_t *candidate_starts, size_t candidate_starts_length,
+                                          const uint16_t *candidate_ends, size_t candidate_ends_length,
+                                          const uint8_t *candidate_marks, size_t candidate_marks_length,
+                                          uint8_t *numbers, size_t numbers_length,
+                                          uint8_t *counts, size_t counts_length,
+                                          uint8_t *space, size_t space_length);
+
+/* The same for a run, in which receiver 1 is open from p1 to q1 and receiver 2 from p2 to q2: each answer is what hub_plan_run would give. Order: 1, 2, 3, 16, 4, 5, 14, the
+ * table's rows for 6 and 7, then 8. */
+struct hub_tried hub_try_candidates_run(uint16_t ticks, uint16_t gap, uint16_t p1, uint16_t q1, uint16_t p2, uint16_t q2,
+                                        const uint16_t *starts, size_t starts_length,
+                                        const uint16_t *ends, size_t ends_length,
+                                        const uint8_t *marks, size_t marks_length,
+                                        const uint16_t *candidate_starts, size_t candidate_starts_length,
+                                        const uint16_t *candidate_ends, size_t candidate_ends_length,
+                                        const uint8_t *candidate_marks, size_t candidate_marks_length,
+                                        uint8_t *numbers, size_t numbers_length,
+                                        uint8_t *counts, size_t counts_length,
+                                        uint8_t *space, size_t space_length);
 
 #ifdef __cplusplus
 }

@@ -1,6 +1,6 @@
 /* Tests include/hubplan.h by itself: every function is called as the header declares it, on paper 01's session, on runs with unequal hours, with each mark, with windows that
- * cover every tick, with gaps, on held tables, at each limit and for each refusal, and every constant, field and parameter is compared with the papers'. The numbers here are the
- * papers', since the header's constants are what is tested.
+ * cover every tick, with gaps, on held tables, with candidates, at each limit and for each refusal, and every constant, field and parameter is compared with the papers'. The
+ * numbers here are the papers', since the header's constants are what is tested.
  *
  *   gcc -std=c99 -Wall -Wextra -Wpedantic -Werror -Iinclude tests/header.c target/staticlib/libhub_c.a -o target/header && target/header
  */
@@ -20,6 +20,8 @@
 #define hub_held_begin(...) hub_held_begin(__VA_ARGS__); static const char held_begin_takes[] __attribute__((unused)) = #__VA_ARGS__
 #define hub_held_add(...) hub_held_add(__VA_ARGS__); static const char held_add_takes[] __attribute__((unused)) = #__VA_ARGS__
 #define hub_held_withdraw(...) hub_held_withdraw(__VA_ARGS__); static const char held_withdraw_takes[] __attribute__((unused)) = #__VA_ARGS__
+#define hub_try_candidates_round(...) hub_try_candidates_round(__VA_ARGS__); static const char try_round_takes[] = #__VA_ARGS__
+#define hub_try_candidates_run(...) hub_try_candidates_run(__VA_ARGS__); static const char try_run_takes[] = #__VA_ARGS__
 #include "hubplan.h"
 #undef hub_plan_round
 #undef hub_plan_run
@@ -32,6 +34,8 @@
 #undef hub_held_begin
 #undef hub_held_add
 #undef hub_held_withdraw
+#undef hub_try_candidates_round
+#undef hub_try_candidates_run
 
 #define ROWS 64
 #define SPACE 16384
@@ -64,6 +68,14 @@ struct held {
     size_t starts_length, ends_length, marks_length, labels_length, space_length;
 };
 
+/* A table with candidates as they are lent; the answers have room beyond. */
+struct tries {
+    struct lent table;
+    uint16_t starts[ROWS + 1], ends[ROWS + 1];
+    uint8_t marks[ROWS + 1], numbers[ROWS + 1 + BEYOND], counts[ROWS + 1 + BEYOND];
+    size_t starts_length, ends_length, marks_length, numbers_length, counts_length;
+};
+
 struct fleet {
     uint8_t bytes[500];
     size_t length;
@@ -74,8 +86,9 @@ static uint8_t tape[TAPE + BEYOND];
 static uint8_t out[REPLY + BEYOND];
 
 /* The header's refusals at the papers' numbers. */
-static const unsigned refusals[16] = {HUB_ACCEPTED, HUB_LISTS,   HUB_ROWS,     HUB_SPACE,  HUB_TICKS, HUB_HOURS, HUB_WINDOW, HUB_MARK,
-                                      HUB_NO_PLAN,  HUB_NOT_PLAN, HUB_BUFFER,  HUB_FORM,   HUB_TAPE,  HUB_FIRST_TICK, HUB_GAP, HUB_NO_ROW};
+static const unsigned refusals[17] = {HUB_ACCEPTED, HUB_LISTS,   HUB_ROWS,     HUB_SPACE,  HUB_TICKS, HUB_HOURS, HUB_WINDOW, HUB_MARK,
+                                      HUB_NO_PLAN,  HUB_NOT_PLAN, HUB_BUFFER,  HUB_FORM,   HUB_TAPE,  HUB_FIRST_TICK, HUB_GAP, HUB_NO_ROW,
+                                      HUB_CANDIDATES};
 
 /* Plan tapes of the session and of P9. */
 static const uint8_t session_tape[26] = {0x10, 0x00, 0x64, 0x20, 0x01, 0x30, 0x00, 0x00, 0x0A, 0x00, 0x1E, 0x30, 0x03,
@@ -611,16 +624,77 @@ static void withdraw_refused(const char *what, struct held *h, size_t row, unsig
     withdraw(what, h, row, &right, number);
 }
 
+/* ---- candidates ---- */
+
+static void set_candidates(struct tries *c, size_t candidates)
+{
+    c->starts_length = c->ends_length = c->marks_length = c->numbers_length = c->counts_length = candidates;
+}
+
+/* Candidates as start, end and mark. */
+static struct tries with_candidates(struct lent t, size_t candidates, uint16_t rows[][3])
+{
+    struct tries c;
+    memset(&c, 0, sizeof c);
+    c.table = t;
+    for (size_t i = 0; i < candidates; i++)
+        c.starts[i] = rows[i][0], c.ends[i] = rows[i][1], c.marks[i] = (uint8_t)rows[i][2];
+    set_candidates(&c, candidates);
+    return c;
+}
+
+static struct hub_tried try_candidates(struct tries *c)
+{
+    const struct lent *t = &c->table;
+    memset(space, BEFORE, sizeof space);
+    memset(c->numbers, BEFORE, sizeof c->numbers);
+    memset(c->counts, BEFORE, sizeof c->counts);
+    if (t->run)
+        return hub_try_candidates_run(t->ticks, t->gap, t->p1, t->q1, t->p2, t->q2, t->starts, t->starts_length, t->ends, t->ends_length, t->marks, t->marks_length,
+                                      c->starts, c->starts_length, c->ends, c->ends_length, c->marks, c->marks_length, c->numbers, c->numbers_length, c->counts,
+                                      c->counts_length, space, t->space_length);
+    return hub_try_candidates_round(t->ticks, t->gap, t->starts, t->starts_length, t->ends, t->ends_length, t->marks, t->marks_length, c->starts, c->starts_length,
+                                    c->ends, c->ends_length, c->marks, c->marks_length, c->numbers, c->numbers_length, c->counts, c->counts_length, space,
+                                    t->space_length);
+}
+
+/* Number and count of each candidate. */
+static void tried(const char *what, struct tries *c, uint8_t answers[][2], size_t rows)
+{
+    size_t candidates = c->starts_length;
+    bool same = true;
+    struct hub_tried r = try_candidates(c);
+    for (size_t i = 0; i < candidates; i++)
+        same = same && c->numbers[i] == answers[i][0] && c->counts[i] == answers[i][1];
+    check_refusal(what, r.refusal, 0);
+    check(what, "the rows looked at", r.rows == rows);
+    check(what, "the answers", same);
+    check(what, "the bytes beyond the numbers", all_are(c->numbers + candidates, sizeof c->numbers - candidates, BEFORE));
+    check(what, "the bytes beyond the counts", all_are(c->counts + candidates, sizeof c->counts - candidates, BEFORE));
+    check_space(what, true);
+}
+
+static void try_refused(const char *what, struct tries *c, unsigned number, size_t rows)
+{
+    struct hub_tried r = try_candidates(c);
+    check_refusal(what, r.refusal, number);
+    check(what, "the rows looked at", r.rows == rows);
+    check(what, "the numbers are untouched", all_are(c->numbers, sizeof c->numbers, BEFORE));
+    check(what, "the counts are untouched", all_are(c->counts, sizeof c->counts, BEFORE));
+    check_space(what, number == 8);
+}
+
 /* ---- the groups ---- */
 
 static void constants(void)
 {
-    for (unsigned i = 0; i < 16; i++)
+    for (unsigned i = 0; i < 17; i++)
         check("a refusal", "its constant is the papers' number", refusals[i] == i);
     check("marks", "for either receiver", HUB_MAY == 0 && HUB_MUST == 1);
     check("marks", "for receiver 1 only", HUB_MAY_1 == 2 && HUB_MUST_1 == 3);
     check("marks", "for receiver 2 only", HUB_MAY_2 == 4 && HUB_MUST_2 == 5);
     check("constants", "HUB_MOST_ROWS", HUB_MOST_ROWS == ROWS);
+    check("constants", "HUB_MOST_CANDIDATES", HUB_MOST_CANDIDATES == 64);
     check("constants", "HUB_MOST_GAP", HUB_MOST_GAP == 600);
     check("constants", "HUB_SPACE_BYTES", HUB_SPACE_BYTES == SPACE);
     check("constants", "HUB_PLAN_TAPE_BYTES", HUB_PLAN_TAPE_BYTES == TAPE);
@@ -677,6 +751,9 @@ static void structs(void)
     check("hub_held_change", "refusal", offsetof(struct hub_held_change, refusal) == 0);
     check("hub_held_change", "count", offsetof(struct hub_held_change, count) == 8);
     check("hub_held_change", "numbers", offsetof(struct hub_held_change, numbers) == 16);
+    check("hub_tried", "sizes", sizeof(struct hub_tried) == 16 && sizeof((struct hub_tried){0, 0}).refusal == 1 && sizeof((struct hub_tried){0, 0}).rows == 8);
+    check("hub_tried", "refusal", offsetof(struct hub_tried, refusal) == 0);
+    check("hub_tried", "rows", offsetof(struct hub_tried, rows) == 8);
     check("hub_held_table", "places", sizeof h.starts == 2 * ROWS && sizeof h.ends == 2 * ROWS && sizeof h.marks == ROWS && sizeof h.labels == ROWS);
     end_group("structs");
 }
@@ -686,6 +763,9 @@ static void structs(void)
 #define TABLE ", const uint16_t *starts, size_t starts_length, const uint16_t *ends, size_t ends_length, const uint8_t *marks, size_t marks_length"
 #define PLANS ", uint8_t *labels, size_t labels_length, uint8_t *space, size_t space_length"
 #define WRITES ", const uint8_t *labels, size_t labels_length, uint8_t *tape, size_t tape_length"
+#define TRIES ", const uint16_t *candidate_starts, size_t candidate_starts_length, const uint16_t *candidate_ends, size_t candidate_ends_length, " \
+              "const uint8_t *candidate_marks, size_t candidate_marks_length, uint8_t *numbers, size_t numbers_length, uint8_t *counts, size_t counts_length, " \
+              "uint8_t *space, size_t space_length"
 #define HELD "struct hub_held_numbers numbers, uint16_t *starts, size_t starts_length, uint16_t *ends, size_t ends_length, uint8_t *marks, size_t marks_length"
 
 static void parameters(void)
@@ -705,6 +785,8 @@ static void parameters(void)
                                                                "uint8_t *space, size_t space_length") == 0);
     check("hub_held_withdraw", "parameters", strcmp(held_withdraw_takes, HELD ", uint8_t *labels, size_t labels_length, size_t row, "
                                                                          "uint8_t *space, size_t space_length") == 0);
+    check("hub_try_candidates_round", "parameters", strcmp(try_round_takes, TICKS TABLE TRIES) == 0);
+    check("hub_try_candidates_run", "parameters", strcmp(try_run_takes, TICKS HOURS TABLE TRIES) == 0);
     end_group("parameters");
 }
 
@@ -1575,6 +1657,152 @@ static void held_too_many(void)
     end_group("held tables of too many rows");
 }
 
+/* P2 and P9 with candidates, worked out by hand: beside all rows, over some, all day, for one receiver, outside the hours, and with faults. */
+static void candidate_examples(void)
+{
+    static uint16_t of_p2[8][3] = {{50, 90, 0}, {25, 30, 0}, {30, 50, 1}, {7, 7, 2}, {50, 100, 0}, {50, 60, 6}, {100, 60, 6}, {50, 90, 5}};
+    static uint8_t answers_of_p2[8][2] = {{0, 4}, {0, 3}, {0, 4}, {0, 3}, {6, 0}, {7, 0}, {6, 0}, {0, 4}};
+    static uint16_t of_musts[4][3] = {{28, 29, 0}, {30, 35, 0}, {30, 35, 4}, {8, 8, 0}};
+    static uint8_t answers_of_musts[4][2] = {{8, 0}, {0, 4}, {0, 4}, {8, 0}};
+    static uint16_t of_p9[8][3] = {{0, 10, 0}, {30, 60, 0}, {60, 100, 0}, {60, 101, 0}, {7, 7, 0}, {60, 100, 2}, {0, 10, 4}, {42, 45, 0}};
+    static uint8_t answers_of_p9[8][2] = {{0, 2}, {8, 0}, {0, 3}, {6, 0}, {6, 0}, {8, 0}, {8, 0}, {0, 3}};
+    struct tries c = with_candidates(session(), 8, of_p2);
+    tried("P2 with candidates", &c, answers_of_p2, 12);
+    set_candidates(&c, 0);
+    tried("P2 with no candidates", &c, answers_of_p2, 4);
+    c = with_candidates(session(), 4, of_musts);
+    c.table.marks[0] = c.table.marks[1] = 1;
+    tried("P2 with two musts", &c, answers_of_musts, 8);
+    c.table.marks[2] = 1;
+    try_refused("P4 with candidates", &c, 8, 4);
+    c = with_candidates(p9(), 8, of_p9);
+    tried("P9 with candidates", &c, answers_of_p9, 11);
+    set_rows(&c.table, 0);
+    c.table.p1 = 40, c.table.q1 = 100, c.table.p2 = 0, c.table.q2 = 50; /* mark 2 in receiver 1's hours, mark 4 in receiver 2's */
+    static uint8_t answers_turned[8][2] = {{0, 1}, {8, 0}, {0, 1}, {6, 0}, {6, 0}, {0, 1}, {0, 1}, {0, 1}};
+    tried("P9's hours exchanged", &c, answers_turned, 8);
+    end_group("candidates");
+}
+
+/* Each mark beside a row that must be heard by receiver 1, and by receiver 2. */
+static void candidate_marks(void)
+{
+    for (int run = 0; run < 2; run++)
+        for (unsigned only = 1; only <= 2; only++)
+            for (unsigned mark = 0; mark < 256; mark++) {
+                uint16_t window[1][2] = {{2, 6}}, candidate[1][3] = {{4, 5, (uint16_t)mark}};
+                struct tries c = with_candidates(marked(run, window, only == 1 ? "3" : "5"), 1, candidate);
+                bool meets = mark / 2 == only;
+                uint8_t answer[1][2] = {{mark > 5 ? 7 : meets ? 8 : 0, mark > 5 || meets ? 0 : 2}};
+                tried("a mark beside a must", &c, answer, 2);
+            }
+    end_group("marks of candidates");
+}
+
+/* 63 to 65 rows and 64 and 65 candidates; both sides of R, gap and working space. */
+static void candidate_limits(bool run)
+{
+    uint16_t rows[ROWS + 1][3];
+    uint8_t answers[ROWS][2];
+    for (size_t i = 0; i <= ROWS; i++)
+        rows[i][0] = 80, rows[i][1] = 81, rows[i][2] = 0;
+    for (size_t i = 0; i < ROWS; i++)
+        answers[i][0] = 0, answers[i][1] = ROWS;
+    struct tries c = with_candidates(many(run, ROWS - 1), ROWS, rows);
+    tried("63 rows and 64 candidates", &c, answers, 127);
+    c.table.space_length = SPACE - 1;
+    try_refused("16,383 bytes", &c, 3, 0);
+    c.table.space_length = SPACE + 1;
+    tried("16,385 bytes", &c, answers, 127);
+    static const uint16_t ticks[4] = {0, 1, 43201, 65535};
+    for (size_t i = 0; i < 4; i++) {
+        c.table.ticks = ticks[i];
+        try_refused("R outside its limits", &c, 4, 0);
+    }
+    c.table.ticks = 43200;
+    tried("R 43,200", &c, answers, 127);
+    c.table.gap = 601;
+    try_refused("gap 601", &c, 14, 0);
+    c = with_candidates(many(run, ROWS), ROWS, rows);
+    for (size_t i = 0; i < ROWS; i++)
+        answers[i][0] = 2, answers[i][1] = 0;
+    c.marks[0] = 6, c.ends[1] = 200; /* unread */
+    tried("64 rows and 64 candidates", &c, answers, 64);
+    set_candidates(&c, ROWS + 1);
+    try_refused("65 candidates", &c, 16, 0);
+}
+
+/* Each of the five lists alone with a place less, of 64, and more, of 63. */
+static void candidate_lists(bool run)
+{
+    uint16_t rows[ROWS][3];
+    for (size_t i = 0; i < ROWS; i++)
+        rows[i][0] = 80, rows[i][1] = 81, rows[i][2] = 0;
+    struct tries c = with_candidates(many(run, 3), ROWS, rows);
+    size_t *lengths[5] = {&c.starts_length, &c.ends_length, &c.marks_length, &c.numbers_length, &c.counts_length};
+    for (size_t i = 0; i < 5; i++) {
+        set_candidates(&c, ROWS);
+        *lengths[i] = ROWS - 1;
+        try_refused("a list of 63 places beside 64", &c, 16, 0);
+        set_candidates(&c, ROWS - 1);
+        *lengths[i] = ROWS;
+        try_refused("a list of 64 places beside 63", &c, 16, 0);
+        set_candidates(&c, 0);
+        *lengths[i] = 1;
+        try_refused("a list of 1 place beside none", &c, 16, 0);
+    }
+}
+
+/* Wrong in every way: mended one by one, the refusals come in the order that the header gives, each with the rows looked at. */
+static void candidate_refusals(const char *what, bool run)
+{
+    uint16_t rows[1][3] = {{200, 200, 9}};
+    uint8_t full[1][2] = {{2, 0}}, fault[1][2] = {{6, 0}};
+    struct tries c = with_candidates(all_wrong(run), 1, rows);
+    c.table.space_length = SPACE - 1;
+    c.counts_length = 0;
+    size_t *lengths[3] = {&c.table.starts_length, &c.table.ends_length, &c.table.marks_length};
+    for (size_t i = 0; i < 3; i++) {
+        *lengths[i] = ROWS;
+        try_refused(what, &c, 1, 0);
+        set_rows(&c.table, ROWS + 1);
+    }
+    try_refused(what, &c, 2, 0);
+    set_rows(&c.table, ROWS);
+    try_refused(what, &c, 3, 0);
+    c.table.space_length = SPACE;
+    try_refused(what, &c, 16, 0);
+    c.counts_length = 1;
+    try_refused(what, &c, 4, 0);
+    c.table.ticks = 100;
+    if (run)
+        try_refused(what, &c, 5, 0);
+    c.table.p1 = 0;
+    try_refused(what, &c, 14, 0);
+    c.table.gap = 0;
+    try_refused(what, &c, 6, 1);
+    c.table.ends[0] = 1;
+    try_refused(what, &c, 7, 1);
+    c.table.marks[0] = 0, c.table.marks[9] = 6;
+    try_refused(what, &c, 7, 10);
+    c.table.marks[9] = 0;
+    try_refused(what, &c, 8, 64);
+    c.table.marks[3] = 0;
+    tried(what, &c, full, 64);
+    set_rows(&c.table, ROWS - 1);
+    tried(what, &c, fault, 64);
+}
+
+static void all_candidate_refusals(void)
+{
+    for (int run = 0; run < 2; run++) {
+        candidate_limits(run);
+        candidate_lists(run);
+        candidate_refusals(run ? "hub_try_candidates_run" : "hub_try_candidates_round", run);
+    }
+    end_group("refusals of candidates");
+}
+
 int main(void)
 {
     constants();
@@ -1599,5 +1827,8 @@ int main(void)
     held_refusals();
     held_faults();
     held_too_many();
+    candidate_examples();
+    candidate_marks();
+    all_candidate_refusals();
     return all_failures != 0;
 }

@@ -1,6 +1,6 @@
 /* Measures how many bytes of stack each function of the library uses, the most over three tables of 64 rows, with a gap of 60: one of which many rows are heard, one of
- * which few are, and one that is refused. The last row of a table is added to the held table of the others, and row 0 is withdrawn from the held table of all. Each call is made on
- * a stack of its own that was filled with a pattern, and what a call that does nothing uses is taken off.
+ * which few are, and one that is refused. The last row of a table is added to the held table of the others, and row 0 is withdrawn from the held table of all; all rows are
+ * candidates for the table without the last. Each call is made on a stack of its own that was filled with a pattern, and what a call that does nothing uses is taken off.
  *
  *   gcc -std=c99 -O2 -Wall -Wextra -Wpedantic -Werror -Iinclude tests/stack.c target/staticlib/libhub_c.a -o target/stack && target/stack
  */
@@ -41,6 +41,19 @@ static void held_withdraw(void)
 {
     struct hub_held_numbers numbers = {43200, 60, rows, 0};
     hub_held_withdraw(numbers, starts, 64, ends, 64, marks, 64, labels, 64, 0, space, sizeof space);
+}
+
+/* Numbers and counts go to the labels and to `out`, which these calls need for nothing else. */
+static void try_round(void)
+{
+    hub_try_candidates_round(43200, 60, starts, rows - 1, ends, rows - 1, marks, rows - 1, starts, rows, ends, rows, marks, rows, labels, rows, out, rows, space,
+                             sizeof space);
+}
+
+static void try_run(void)
+{
+    hub_try_candidates_run(43200, 60, 0, 43200, 0, 43200, starts, rows - 1, ends, rows - 1, marks, rows - 1, starts, rows, ends, rows, marks, rows, labels, rows, out,
+                           rows, space, sizeof space);
 }
 
 /* Plans the table and writes the plan tape; none where the table is refused. */
@@ -89,7 +102,8 @@ int main(void)
         {"hub_plan_round", plan_round}, {"hub_plan_run", plan_run}, {"hub_write_plan_round", write_round},
         {"hub_write_plan_run", write_run}, {"hub_read_fleet", read_fleet}, {"hub_reply", reply},
         {"hub_player_start", player_start}, {"hub_player_step", player_step}, {"hub_held_begin", held_begin},
-        {"hub_held_add", held_add}, {"hub_held_withdraw", held_withdraw}};
+        {"hub_held_add", held_add}, {"hub_held_withdraw", held_withdraw},
+        {"hub_try_candidates_round", try_round}, {"hub_try_candidates_run", try_run}};
     static const unsigned tables[3][3] = {{600, 900, 0}, {1, 40000, 1}, {600, 900, 6}};
     size_t base = depth_of(nothing);
     for (size_t c = 0; c < sizeof calls / sizeof *calls; c++) {
@@ -101,7 +115,7 @@ int main(void)
             size_t depth = depth_of(calls[c].call) - base;
             most = depth > most ? depth : most;
         }
-        printf("%-22s %zu bytes of stack\n", calls[c].name, most);
+        printf("%-26s %zu bytes of stack\n", calls[c].name, most);
     }
     return 0;
 }

@@ -3,6 +3,7 @@
 //! What each function promises is proved of the function that it calls (crates/hub_c). Here only slices are taken apart into
 //! addresses and lengths, and Rust's borrow rules see to it that the lists of one call do not overlap.
 
+pub mod candidates;
 pub mod distance;
 pub mod first_free;
 pub mod held;
@@ -12,6 +13,9 @@ pub mod tables;
 
 /// The most rows of a table, and the places of each list of a held table.
 pub const MAX_ROWS: usize = 64;
+
+/// The most candidates of a call.
+pub const MAX_CANDIDATES: usize = 64;
 
 /// The working space that the planner needs and clears, in bytes.
 pub const SPACE_BYTES: usize = 16_384;
@@ -63,6 +67,7 @@ pub enum Refusal {
     FirstTick = 13,
     Gap = 14,
     NoRow = 15,
+    Candidates = 16,
 }
 
 impl Refusal {
@@ -86,7 +91,8 @@ impl Refusal {
             12 => Refusal::Tape,
             13 => Refusal::FirstTick,
             14 => Refusal::Gap,
-            _ => Refusal::NoRow,
+            15 => Refusal::NoRow,
+            _ => Refusal::Candidates,
         }
     }
 }
@@ -189,6 +195,12 @@ mod c {
         pub refusal: u8,
         pub count: usize,
         pub numbers: Numbers,
+    }
+
+    #[repr(C)]
+    pub struct HubTried {
+        pub refusal: u8,
+        pub rows: usize,
     }
 
     extern "C" {
@@ -300,6 +312,54 @@ mod c {
             space: *mut u8,
             space_length: usize,
         ) -> HubHeldChange;
+        pub fn hub_try_candidates_round(
+            ticks: u16,
+            gap: u16,
+            starts: *const u16,
+            starts_length: usize,
+            ends: *const u16,
+            ends_length: usize,
+            marks: *const u8,
+            marks_length: usize,
+            candidate_starts: *const u16,
+            candidate_starts_length: usize,
+            candidate_ends: *const u16,
+            candidate_ends_length: usize,
+            candidate_marks: *const u8,
+            candidate_marks_length: usize,
+            numbers: *mut u8,
+            numbers_length: usize,
+            counts: *mut u8,
+            counts_length: usize,
+            space: *mut u8,
+            space_length: usize,
+        ) -> HubTried;
+        pub fn hub_try_candidates_run(
+            ticks: u16,
+            gap: u16,
+            p1: u16,
+            q1: u16,
+            p2: u16,
+            q2: u16,
+            starts: *const u16,
+            starts_length: usize,
+            ends: *const u16,
+            ends_length: usize,
+            marks: *const u8,
+            marks_length: usize,
+            candidate_starts: *const u16,
+            candidate_starts_length: usize,
+            candidate_ends: *const u16,
+            candidate_ends_length: usize,
+            candidate_marks: *const u8,
+            candidate_marks_length: usize,
+            numbers: *mut u8,
+            numbers_length: usize,
+            counts: *mut u8,
+            counts_length: usize,
+            space: *mut u8,
+            space_length: usize,
+        ) -> HubTried;
     }
 }
 

@@ -64,6 +64,14 @@ impl Table {
         self.starts.len()
     }
 
+    /// The first so many rows.
+    pub fn first(mut self, rows: usize) -> Table {
+        self.starts.truncate(rows);
+        self.ends.truncate(rows);
+        self.marks.truncate(rows);
+        self
+    }
+
     pub fn plan(&self, planner: Planner, labels: &mut [u8], space: &mut [u8]) -> Result<usize, Refusal> {
         planner(self.kind, self.ticks, self.gap, &self.starts, &self.ends, &self.marks, labels, space)
     }
@@ -230,5 +238,25 @@ pub fn benchmark_tables() -> Vec<(&'static str, Table)> {
         ("1 to 2 deep, gap 60", deep(64, 1, 2, 1).with_gap(60)),
         ("run with uneven hours, gap 60", uneven_run(64, 6).with_gap(60)),
         ("32 windows and 32 long arcs, gap 60", long_arcs(8).with_gap(60)),
+    ]
+}
+
+/// The benchmark's tables of 63 rows, each with 64 candidates, which are the rows of a table drawn in the same way from another sequence.
+pub fn candidate_tables() -> Vec<(&'static str, Table, Table)> {
+    vec![
+        ("1 to 2 deep", deep(64, 1, 2, 1).first(63), deep(64, 1, 2, 101)),
+        ("1 to 2 deep, another", deep(64, 1, 2, 9).first(63), deep(64, 1, 2, 109)),
+        ("scattered, 1.5 deep on average", scattered(64, 150, 2).first(63), scattered(64, 150, 102)),
+        ("4 to 5 deep", deep(64, 4, 5, 3).first(63), deep(64, 4, 5, 103)),
+        ("5 deep", deep(64, 5, 5, 15).first(63), deep(64, 5, 5, 115)),
+        ("run with uneven hours", uneven_run(64, 6).first(63), uneven_run(64, 106)),
+        ("1 to 2 deep, marks 0 to 5 in turn", all_marks(64, 51).first(63), all_marks(64, 151)),
+        ("1 to 2 deep, gap 60", deep(64, 1, 2, 1).first(63).with_gap(60), deep(64, 1, 2, 101)),
+        ("5 deep, gap 60", deep(64, 5, 5, 15).first(63).with_gap(60), deep(64, 5, 5, 115)),
+        (
+            "run with uneven hours, gap 60",
+            uneven_run(64, 6).first(63).with_gap(60),
+            uneven_run(64, 106),
+        ),
     ]
 }

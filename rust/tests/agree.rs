@@ -1,5 +1,6 @@
 //! The proved library against the papers' rules written down independently (tests/papers), on fixed pseudo-random inputs, valid and damaged.
 
+mod candidates;
 mod held;
 mod papers;
 mod player;

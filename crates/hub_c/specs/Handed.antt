@@ -1,4 +1,4 @@
--- Believed: How an answer, a report, the receivers' open hours, a player and what it tells, and a held table are handed over to C: by numbers alone.
+-- Believed: How an answer, a report, the receivers' open hours, a player and what it tells, a held table, and what candidates are answered are handed over to C: by numbers alone.
 use mathlib.Core.Bool.{Bool, true, false}
 use Prim.Native.Nat.{ℕ}
 use mathlib.Core.List.{List}
@@ -6,6 +6,7 @@ use Rattle.window.specs.declared.Kind.{Kind}
 use Rattle.window.specs.declared.Kind.the-variants.{Round, Run}
 use Rattle.refusals.specs.declared.Answer.{Answer}
 use Rattle.refusals.specs.Refusals.{numberOf}
+use Rattle.table.specs.declared.Looked.{Looked}
 use Rattle.table.specs.Planned.{PlanCalled}
 use Rattle.plan_tape.specs.Written.{Written}
 use Rattle.fleet_tape.specs.Reading.{Reading}
@@ -19,6 +20,7 @@ use Rattle.player.specs.declared.Stepped.{Stepped}
 use Rattle.held_table.specs.declared.Numbers.{Numbers}
 use Rattle.held_table.specs.declared.Begun.{Begun}
 use Rattle.held_table.specs.Held.{HeldCall}
+use Rattle.candidates.specs.Tried.{CandidatesCalled}
 use Rattle.hub_c.specs.declared.HubAnswer.{HubAnswer}
 use Rattle.hub_c.specs.declared.HubPlayer.{HubPlayer}
 use Rattle.hub_c.specs.declared.HubStarted.{HubStarted}
@@ -28,6 +30,7 @@ use Rattle.hub_c.specs.declared.HubReport.{HubReport}
 use Rattle.hub_c.specs.declared.HubHeldNumbers.{HubHeldNumbers}
 use Rattle.hub_c.specs.declared.HubHeldBegun.{HubHeldBegun}
 use Rattle.hub_c.specs.declared.HubHeldChange.{HubHeldChange}
+use Rattle.hub_c.specs.declared.HubTried.{HubTried}
 
 -- the refusal by its number in the papers, 0 for accepted, and the count
 abbrev pub handed : Answer → HubAnswer
@@ -139,3 +142,22 @@ handedChange a n = record { refusal = numberOf (a .refusal); count = a .count; n
 abbrev pub handedHeld : HeldCall → HubHeldCall
 handedHeld c =
     heldGave (handedChange (c .answer) (c .held .numbers)) (c .held .starts) (c .held .ends) (c .held .marks) (c .held .labels) (c .space)
+
+-- ---- candidates
+
+-- the refusal by its number, and how many rows were looked at
+abbrev pub handedLooked : Looked → HubTried
+handedLooked l = record { refusal = numberOf (l .refusal); rows = l .rows }
+
+-- what trying candidates gives to C
+pub record HubCandidates : Type 0 where
+  pub reports : HubTried
+  pub numbers : List ℕ
+  pub counts : List ℕ
+  pub space : List ℕ
+
+abbrev pub triedGave : HubTried → List ℕ → List ℕ → List ℕ → HubCandidates
+triedGave reports numbers counts space = record { reports = reports; numbers = numbers; counts = counts; space = space }
+
+abbrev pub handedTried : CandidatesCalled → HubCandidates
+handedTried c = triedGave (handedLooked (c .reports)) (c .numbers) (c .counts) (c .space)

@@ -9,8 +9,9 @@ ghost use Rattle.plan_tape.specs.Written.{written};
 ghost use Rattle.fleet_tape.specs.Reading.{fleetRead};
 ghost use Rattle.player.specs.Played.{playerAt, stepped, started};
 ghost use Rattle.reply.specs.Replied.{replying, replied};
-ghost use Rattle.hub_c.specs.Handed.{handed, isRun, handedReport, planGave, handedPlan, tapeGave, handedTape, readGave, handedRead, handedPlayer, handedReceiver, handedStarted, handedStepped, handedNumbers, numbersFrom, handedBegun, handedChange, heldGave, handedHeld};
+ghost use Rattle.hub_c.specs.Handed.{handed, isRun, handedReport, planGave, handedPlan, tapeGave, handedTape, readGave, handedRead, handedPlayer, handedReceiver, handedStarted, handedStepped, handedNumbers, numbersFrom, handedBegun, handedChange, heldGave, handedHeld, handedLooked, triedGave, handedTried};
 ghost use Rattle.held_table.specs.Held.{kept, begun, addCall, withdrawCall};
+ghost use Rattle.candidates.specs.Tried.{candidates, candidatesCall};
 ghost use Rattle.window.specs.Rows.{row};
 ghost use Rattle.window.specs.Hours.{hoursFrom, noHours};
 use fleet_tape::Report;
@@ -19,6 +20,7 @@ use held_table::Numbers;
 use player::Player;
 use player::Receiver;
 use refusals::Answer;
+use table::Looked;
 use table::Setting;
 use window::Kind;
 use window::Row;
@@ -95,6 +97,13 @@ pub struct HubHeldChange {
     pub refusal: u8,
     pub count: usize,
     pub numbers: HubHeldNumbers,
+}
+
+// What trying candidates reports: the refusal's number, and how many rows were looked at, of the table and of the candidates.
+#[repr(C)]
+pub struct HubTried {
+    pub refusal: u8,
+    pub rows: usize,
 }
 
 // An answer by its numbers.
@@ -419,4 +428,113 @@ pub extern "C" fn hub_held_withdraw(
     let from = numbers_from(numbers);
     let changed = held_table::withdraw(from, starts, ends, marks, labels, row, space);
     hand_over_change(changed)
+}
+
+// What trying candidates reports, by its numbers.
+fn hand_over_looked(looked: Looked) -> HubTried
+    ensures { λ r. ⌜ r ≡ handedLooked looked ⌝ }
+{
+    let refusal = looked.refusal;
+    HubTried {
+        refusal: refusals::number(refusal),
+        rows: looked.rows,
+    }
+}
+
+// Tries candidates against a table of a round or a run.
+fn try_candidates(
+    setting: Setting,
+    starts: &[u16],
+    ends: &[u16],
+    marks: &[u8],
+    candidate_starts: &[u16],
+    candidate_ends: &[u16],
+    candidate_marks: &[u8],
+    numbers: &mut [u8],
+    counts: &mut [u8],
+    space: &mut [u8],
+) -> HubTried
+    ensures { λ r. ⌜ triedGave r (now (numbers .exit)) (now (counts .exit)) (now (space .exit)) ≡ handedTried (candidatesCall (table setting (now (starts .entry)) (now (ends .entry)) (now (marks .entry))) (candidates (now («candidate_starts» .entry)) (now («candidate_ends» .entry)) (now («candidate_marks» .entry))) (now (numbers .entry)) (now (counts .entry)) (now (space .entry))) ⌝ }
+{
+    let looked = candidates::try_each(
+        setting,
+        starts,
+        ends,
+        marks,
+        candidate_starts,
+        candidate_ends,
+        candidate_marks,
+        numbers,
+        counts,
+        space,
+    );
+    hand_over_looked(looked)
+}
+
+// Tries each candidate, alone, as a row that must be heard beside the table of a round with a gap.
+#[no_mangle]
+pub extern "C" fn hub_try_candidates_round(
+    ticks: u16,
+    gap: u16,
+    starts: &[u16],
+    ends: &[u16],
+    marks: &[u8],
+    candidate_starts: &[u16],
+    candidate_ends: &[u16],
+    candidate_marks: &[u8],
+    numbers: &mut [u8],
+    counts: &mut [u8],
+    space: &mut [u8],
+) -> HubTried
+    ensures { λ r. ⌜ triedGave r (now (numbers .exit)) (now (counts .exit)) (now (space .exit)) ≡ handedTried (candidatesCall (table (settingOf Round ticks gap noHours) (now (starts .entry)) (now (ends .entry)) (now (marks .entry))) (candidates (now («candidate_starts» .entry)) (now («candidate_ends» .entry)) (now («candidate_marks» .entry))) (now (numbers .entry)) (now (counts .entry)) (now (space .entry))) ⌝ }
+{
+    let setting = table::round_setting(ticks, gap);
+    try_candidates(
+        setting,
+        starts,
+        ends,
+        marks,
+        candidate_starts,
+        candidate_ends,
+        candidate_marks,
+        numbers,
+        counts,
+        space,
+    )
+}
+
+// Tries each candidate, alone, as a row that must be heard beside the table of a run with a gap, with the hours of its receivers.
+#[no_mangle]
+pub extern "C" fn hub_try_candidates_run(
+    ticks: u16,
+    gap: u16,
+    p1: u16,
+    q1: u16,
+    p2: u16,
+    q2: u16,
+    starts: &[u16],
+    ends: &[u16],
+    marks: &[u8],
+    candidate_starts: &[u16],
+    candidate_ends: &[u16],
+    candidate_marks: &[u8],
+    numbers: &mut [u8],
+    counts: &mut [u8],
+    space: &mut [u8],
+) -> HubTried
+    ensures { λ r. ⌜ triedGave r (now (numbers .exit)) (now (counts .exit)) (now (space .exit)) ≡ handedTried (candidatesCall (table (settingOf Run ticks gap (hoursFrom p1 q1 p2 q2)) (now (starts .entry)) (now (ends .entry)) (now (marks .entry))) (candidates (now («candidate_starts» .entry)) (now («candidate_ends» .entry)) (now («candidate_marks» .entry))) (now (numbers .entry)) (now (counts .entry)) (now (space .entry))) ⌝ }
+{
+    let setting = run_setting(ticks, gap, p1, q1, p2, q2);
+    try_candidates(
+        setting,
+        starts,
+        ends,
+        marks,
+        candidate_starts,
+        candidate_ends,
+        candidate_marks,
+        numbers,
+        counts,
+        space,
+    )
 }

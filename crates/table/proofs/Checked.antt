@@ -50,12 +50,16 @@ then-looked r n rest = go (passes r) refl
     go true e p = (eqb-true (numberOf r) 0 e, p)
     go false e p = absurd (eqb-false (numberOf r) 0 e p)
 
--- the rows from i on, n of them, all pass
-looked-passed : (check : ℕ → Refusal) (i n : ℕ) → Passed (lookFrom check i n .refusal) → (k : ℕ) → i ≤ k → k < i + n → Passed (check k)
+-- the rows from i on pass: row i, and those after it
+looked-more : (check : ℕ → Refusal) (i n : ℕ) → Passed (lookFrom check i (suc n) .refusal) → Passed (check i) × Passed (lookFrom check (i + 1) n .refusal)
 unfolding lookFrom
+looked-more check i n p = then-looked (check i) (i + 1) (lookFrom check (i + 1) n) p
+
+-- n of them, so all pass
+looked-passed : (check : ℕ → Refusal) (i n : ℕ) → Passed (lookFrom check i n .refusal) → (k : ℕ) → i ≤ k → k < i + n → Passed (check k)
 looked-passed check i zero p k h l = absurd (omega arith)
 looked-passed check i (suc n) p k h l =
-    let f = then-looked (check i) (i + 1) (lookFrom check (i + 1) n) p in
+    let f = looked-more check i n p in
     let rest = looked-passed check (i + 1) n (f .1) k in
     ⊎-elim (λ q. rw (← q) (f .0)) (λ q. rest (omega arith) (omega arith)) (eq-or-lt-of-le h)
 
@@ -64,7 +68,7 @@ all-looked : (check : ℕ → Refusal) (i n : ℕ) → Passed (lookFrom check i 
 unfolding lookFrom
 all-looked check i zero p = omega arith
 all-looked check i (suc n) p =
-    let f = then-looked (check i) (i + 1) (lookFrom check (i + 1) n) p in
+    let f = looked-more check i n p in
     rw (eq-eqb (numberOf (check i)) 0 (f .0)) (all-looked check (i + 1) n (f .1) ∙ omega arith)
 
 module _ (S : Setting) where

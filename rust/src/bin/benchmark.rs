@@ -1,10 +1,11 @@
 //! The benchmark: `cargo run --release --bin benchmark` prints every table of docs/BENCHMARKS.md. Times are processor time of this thread, or of the child process for
 //! glpsol, so that other work on the machine counts as little as possible.
 
+use hubplan::candidates::{try_lists, Candidates, Tried};
 use hubplan::distance::{Remainder, Sums};
 use hubplan::held::{HeldTable, Row};
-use hubplan::tables::{benchmark_tables, deep, in_turn, Planner, Table, DAY};
-use hubplan::{first_free, player_port, port, Kind, Player, Refusal, Stepped, PLAN_TAPE_BYTES, SPACE_BYTES};
+use hubplan::tables::{benchmark_tables, candidate_tables, deep, in_turn, Planner, Table, DAY};
+use hubplan::{first_free, player_port, port, Kind, Player, Refusal, Stepped, MAX_CANDIDATES, PLAN_TAPE_BYTES, SPACE_BYTES};
 use std::fmt::Write as _;
 use std::hint::black_box;
 use std::path::{Path, PathBuf};
@@ -549,6 +550,124 @@ fn held_tables() {
     }
 }
 
+/// Number and count of each candidate.
+#[derive(Clone, PartialEq, Debug)]
+struct Answers {
+    numbers: [u8; MAX_CANDIDATES],
+    counts: [u8; MAX_CANDIDATES],
+}
+
+const NO_ANSWERS: Answers = Answers {
+    numbers: [0; MAX_CANDIDATES],
+    counts: [0; MAX_CANDIDATES],
+};
+
+/// Tries the rows of one table as candidates for another, in one call.
+fn try_candidates(table: &Table, candidates: &Table, answers: &mut Answers, space: &mut [u8]) -> Tried {
+    let Table { starts, ends, marks, .. } = candidates;
+    try_lists(
+        table.kind,
+        table.ticks,
+        table.gap,
+        &table.starts,
+        &table.ends,
+        &table.marks,
+        Candidates { starts, ends, marks },
+        &mut answers.numbers,
+        &mut answers.counts,
+        space,
+    )
+}
+
+/// The table with each candidate as its last row, which must be heard.
+fn longer_tables(table: &Table, candidates: &Table) -> Vec<Table> {
+    let longer = |j: usize| {
+        let mut longer = table.clone();
+        longer.starts.push(candidates.starts[j]);
+        longer.ends.push(candidates.ends[j]);
+        longer.marks.push(candidates.marks[j] | 1);
+        longer
+    };
+    (0..candidates.rows()).map(longer).collect()
+}
+
+/// The same answers by planning each longer table whole.
+fn plan_each(planner: Planner, tables: &[Table], answers: &mut Answers, space: &mut [u8]) {
+    for (j, table) in tables.iter().enumerate() {
+        let answer = black_box(table).plan(planner, &mut [0; 64], space);
+        answers.numbers[j] = answer.map_or_else(Refusal::number, |_| 0);
+        answers.counts[j] = answer.unwrap_or(0) as u8;
+    }
+}
+
+/// A line of the table: the time of trying 64 candidates, and those of the planner and the port for the 64 longer tables. The answers must agree.
+fn candidates_line(name: &str, table: &Table, candidates: &Table) {
+    let longer = longer_tables(table, candidates);
+    let [mut answers, mut planned, mut ported] = [NO_ANSWERS; 3];
+    let mut space = [0; 3].map(|byte| vec![byte; SPACE_BYTES]);
+    let [try_space, plan_space, port_space] = &mut space;
+    let mut try_call = || {
+        let tried = try_candidates(black_box(table), black_box(candidates), &mut answers, try_space);
+        assert_eq!(black_box(tried), Tried { refusal: None, rows: 127 });
+    };
+    let mut plan_call = || plan_each(hubplan::plan, &longer, &mut planned, plan_space);
+    let mut port_call = || plan_each(port::plan, &longer, &mut ported, port_space);
+    let times = measure(&mut [&mut try_call, &mut plan_call, &mut port_call], 21);
+    assert!(answers == planned && answers == ported, "{name}");
+    let placed = answers.numbers.iter().filter(|&&number| number == 0).count();
+    println!(
+        "| {name} | {placed} | {} | {} | {:.2} | {} | {:.2} |",
+        times[0].words(),
+        times[1].words(),
+        times[0].median / times[1].median,
+        times[2].words(),
+        times[0].median / times[2].median
+    );
+}
+
+/// Runs one call with 64 candidates, or 64 plans, for callgrind to count.
+fn one_try(index: usize, planner: Option<Planner>) {
+    let (_, table, candidates) = &candidate_tables()[index];
+    let (mut answers, mut space) = (NO_ANSWERS, vec![0; SPACE_BYTES]);
+    if let Some(planner) = planner {
+        plan_each(planner, &longer_tables(table, candidates), &mut answers, &mut space);
+    } else {
+        black_box(try_candidates(table, candidates, &mut answers, &mut space));
+    }
+    black_box(&answers);
+}
+
+fn candidates(folder: &Path) {
+    println!("\n## Candidates\n");
+    println!(
+        "64 candidates tried against 63 rows in one call, in microseconds of processor time, beside 64 whole plans of the tables with one of them more, by the planner and by the \
+         hand port: the median of repeated runs (lower to upper quartile).\n"
+    );
+    println!("| table | candidates that can be placed | one call | 64 plans | call / plans | 64 plans of the hand port | call / those |");
+    println!("|---|---|---|---|---|---|---|");
+    for (name, table, candidates) in candidate_tables() {
+        candidates_line(name, &table, &candidates);
+    }
+    println!("\nInstructions of the same, counted by valgrind.\n");
+    println!("| table | one call | 64 plans | call / plans | 64 plans of the hand port | call / those |");
+    println!("|---|---|---|---|---|---|");
+    let functions = [
+        ("call", "hub_try_candidates_round"),
+        ("planner", "hub_plan_round"),
+        ("port", "hubplan::port::plan_by"),
+    ];
+    for index in [0, 4, 6] {
+        let (name, number) = (candidate_tables()[index].0, index.to_string());
+        match functions.map(|(who, function)| counted(folder, &["tried", &number, who], function)) {
+            [Some(call), Some(plans), Some(port)] => {
+                let of = |other: u64| call as f64 / other as f64;
+                println!("| {name} | {call} | {plans} | {:.2} | {port} | {:.2} |", of(plans), of(port));
+            }
+            _ => println!("| {name} | not counted | | | | |"),
+        }
+    }
+}
+
 fn main() {
     let words: Vec<String> = env::args().skip(1).collect();
     let words: Vec<&str> = words.iter().map(String::as_str).collect();
@@ -561,9 +680,14 @@ fn main() {
         ["day", "remainder"] => return one_day(player_port::step_by::<Remainder>, &player_tape()),
         ["start", "player"] => return one_start(hubplan::start, &player_tape()),
         ["start", "port"] => return one_start(player_port::start, &player_tape()),
-        [] | ["held"] | ["player"] => {}
+        ["tried", index, "call"] => return one_try(index.parse().expect("a table's number"), None),
+        ["tried", index, "planner"] => return one_try(index.parse().expect("a table's number"), Some(hubplan::plan)),
+        ["tried", index, "port"] => return one_try(index.parse().expect("a table's number"), Some(port::plan)),
+        [] | ["held"] | ["candidates"] | ["player"] => {}
         _ => {
-            eprintln!("usage: benchmark [held | player | one NUMBER planner|port|remainder | day player|port|remainder | start player|port]");
+            eprintln!(
+                "usage: benchmark [held | candidates | player | one NUMBER planner|port|remainder | day player|port|remainder | start player|port | tried NUMBER call|planner|port]"
+            );
             std::process::exit(2);
         }
     }
@@ -574,10 +698,14 @@ fn main() {
         growth();
         instructions(&folder);
     }
-    if words != ["player"] {
+    let asked = |word: &str| words.is_empty() || words == [word];
+    if asked("held") {
         held_tables();
     }
-    if words != ["held"] {
+    if asked("candidates") {
+        candidates(&folder);
+    }
+    if asked("player") {
         players(&folder);
         distances(&folder);
     }

@@ -1,5 +1,6 @@
-//! Rules that misread request 4, and meanings that misread request 5: the tests count how many of their tables and changes tell each of these from the right ones.
+//! Rules that misread request 4, and meanings that misread requests 5 and 7: the tests count how many of their tables, changes and calls tell each of these from the right ones.
 
+use super::candidates::{self, each, fault, must, planning, with, Answer, Lent};
 use super::held::{Change, Held, Meaning, RIGHT};
 use super::{allowed, is_near, is_plan, overlaps, too_close, Rules, RULES};
 use hubplan::held::Row;
@@ -160,4 +161,165 @@ fn labels_stay(held: &Held, change: Change, table: &Table) -> Option<Vec<u8>> {
 fn row_stays(held: &Held, table: Table) -> Held {
     let labels = [&held.labels[..], &[0]].concat();
     Held { table, labels }
+}
+
+const TRIED: candidates::Meaning = candidates::RIGHT;
+
+/// A name, and how trying candidates is understood.
+pub const CANDIDATES: [(&str, candidates::Meaning); 16] = [
+    (
+        "16 before 3",
+        candidates::Meaning {
+            sooner: lists_first,
+            ..TRIED
+        },
+    ),
+    (
+        "16 after 4",
+        candidates::Meaning {
+            sooner: ticks_first,
+            ..TRIED
+        },
+    ),
+    ("a full table is refused 2", candidates::Meaning { sooner: no_place, ..TRIED }),
+    ("a stop at row k counts k", candidates::Meaning { stopped: |k| k, ..TRIED }),
+    ("a refusal by 6 or 7 counts 0", candidates::Meaning { stopped: |_| 0, ..TRIED }),
+    (
+        "8 counts 0",
+        candidates::Meaning {
+            no_plan: |_| Some(0),
+            ..TRIED
+        },
+    ),
+    (
+        "8 counts the candidates",
+        candidates::Meaning {
+            no_plan: |lent| Some(lent.table.rows() + lent.candidates()),
+            ..TRIED
+        },
+    ),
+    ("8 is each candidate's", candidates::Meaning { no_plan: |_| None, ..TRIED }),
+    (
+        "candidates alone are counted",
+        candidates::Meaning {
+            looked: Lent::candidates,
+            ..TRIED
+        },
+    ),
+    (
+        "each candidate has the table looked at again",
+        candidates::Meaning { looked: again, ..TRIED },
+    ),
+    (
+        "candidates are read beside a full table",
+        candidates::Meaning {
+            looked: all_read,
+            answers: read,
+            ..TRIED
+        },
+    ),
+    ("a candidate may be heard", candidates::Meaning { answers: as_lent, ..TRIED }),
+    (
+        "marks 2 and 4 are raised to 1",
+        candidates::Meaning {
+            answers: raised_to_1,
+            ..TRIED
+        },
+    ),
+    ("candidates are tried together", candidates::Meaning { answers: together, ..TRIED }),
+    (
+        "the count leaves out the candidate",
+        candidates::Meaning {
+            answers: others_alone,
+            ..TRIED
+        },
+    ),
+    (
+        "7 before 6 of a candidate",
+        candidates::Meaning {
+            answers: mark_of_candidate_first,
+            ..TRIED
+        },
+    ),
+];
+
+/// The refusals that are looked at before the rows, with one of them at another place.
+fn moved(number: u8, to: usize, lent: &Lent) -> Vec<(u8, bool)> {
+    let mut numbers = (TRIED.sooner)(lent);
+    let from = numbers.iter().position(|&(other, _)| other == number).unwrap();
+    let moved = numbers.remove(from);
+    numbers.insert(to, moved);
+    numbers
+}
+
+fn lists_first(lent: &Lent) -> Vec<(u8, bool)> {
+    moved(16, 2, lent)
+}
+
+fn ticks_first(lent: &Lent) -> Vec<(u8, bool)> {
+    moved(16, 4, lent)
+}
+
+fn no_place(lent: &Lent) -> Vec<(u8, bool)> {
+    let mut numbers = (TRIED.sooner)(lent);
+    numbers[1].1 |= lent.table.rows() == 64;
+    numbers
+}
+
+fn again(lent: &Lent) -> usize {
+    lent.table.rows() + lent.candidates() * (lent.table.rows() + 1)
+}
+
+fn all_read(lent: &Lent) -> usize {
+    lent.table.rows() + lent.candidates()
+}
+
+/// 6 or 7 of a candidate beside a full table, and else 2.
+fn read(lent: &Lent) -> Vec<Answer> {
+    if lent.table.rows() < 64 {
+        return (TRIED.answers)(lent);
+    }
+    let of = |j| match fault(&with(&lent.table, lent.candidate(j)), 64) {
+        0 => (2, 0),
+        number => (number, 0),
+    };
+    (0..lent.candidates()).map(of).collect()
+}
+
+fn as_lent(lent: &Lent) -> Vec<Answer> {
+    each(lent, |candidate| with(&lent.table, candidate))
+}
+
+fn raised_to_1(lent: &Lent) -> Vec<Answer> {
+    let mark = |mark| if matches!(mark, 0 | 2 | 4) { 1 } else { mark };
+    each(lent, |candidate| {
+        let mark = mark(candidate.mark);
+        with(&lent.table, Row { mark, ..candidate })
+    })
+}
+
+/// A candidate that has a plan stays for those after it.
+fn together(lent: &Lent) -> Vec<Answer> {
+    let mut table = lent.table.clone();
+    let mut answers = vec![];
+    for j in 0..lent.candidates() {
+        let longer = with(&table, must(lent.candidate(j)));
+        let answer = if table.rows() == 64 { (2, 0) } else { planning(&longer) };
+        if answer.0 == 0 {
+            table = longer;
+        }
+        answers.push(answer);
+    }
+    answers
+}
+
+fn others_alone(lent: &Lent) -> Vec<Answer> {
+    let others = |(number, count): Answer| (number, if number == 0 { count - 1 } else { 0 });
+    (TRIED.answers)(lent).into_iter().map(others).collect()
+}
+
+fn mark_of_candidate_first(lent: &Lent) -> Vec<Answer> {
+    let answers = (TRIED.answers)(lent);
+    let mark_first = |(j, answer): (usize, Answer)| if answer.0 == 6 && lent.marks[j] > 5 { (7, 0) } else { answer };
+    answers.into_iter().enumerate().map(mark_first).collect()
 }

@@ -1,7 +1,8 @@
-//! Papers 00 and 01 once more, with requests 2 to 4 of paper 02, request 1 in player.rs and request 5 in held.rs, written from their text alone and sharing no code with the
-//! planner: the comparison for the tests. Windows are sets of ticks and gaps are steps, found by walking; up to 8 rows every list of labels is tried; a larger table is planned
-//! by a forward search over what each receiver is busy with. The rules that requests 2 to 4 changed stand as they were in former.rs.
+//! Papers 00 and 01 once more, with requests 2 to 4 of paper 02, request 1 in player.rs, request 5 in held.rs and request 7 in candidates.rs, written from their text alone and
+//! sharing no code with the planner: the comparison for the tests. Windows are sets of ticks and gaps are steps, found by walking; up to 8 rows every list of labels is tried; a
+//! larger table is planned by a forward search over what each receiver is busy with. The rules that requests 2 to 4 changed stand as they were in former.rs.
 
+pub mod candidates;
 pub mod former;
 pub mod held;
 pub mod misread;
