@@ -7,18 +7,18 @@ use mathlib.Core.Option.{Option, none, some}
 use native.Mathlib.Omega.{arith}
 use lib.Dec.{leb, eqb}
 use lib.ListN.{length}
-use borrow.Author.Tests.{eq-eqb, ne-eqb, eqb-true, le-leb, lt-leb, leb-true}
+use borrow.Author.Tests.{eq-eqb, ne-eqb, eqb-true, le-leb, lt-leb}
 use Rattle.basics.specs.Limits.{maxRows}
 use Rattle.basics.proofs.Tests.{eqb-iff, leb-iff, and-iff}
 use Rattle.refusals.specs.declared.Refusal.{Refusal}
 use Rattle.refusals.specs.declared.Refusal.the-variants.{Accepted, Space, NoPlan, Candidates}
-use Rattle.refusals.specs.Refusals.{numberOf, asked, passes, _then_}
-use Rattle.refusals.proofs.Refusals.{Passed, then-first, then-next, then-passes, asked-passes, asked-passed, then-either}
+use Rattle.refusals.specs.Refusals.{numberOf, passes, _then_}
+use Rattle.refusals.proofs.Refusals.{Passed, then-first, then-next, asked-passed, then-either}
 use Rattle.table.specs.declared.Looked.{Looked}
 use Rattle.table.specs.Tables.{Table, rows}
-use Rattle.table.specs.Checks.{lengthsRefusal, listsRefusal, looked, tableLooked}
+use Rattle.table.specs.Checks.{looked, tableLooked}
 use Rattle.table.specs.Planned.{spaceBytes, spaceRefusal, bestPlan, given, planRefusal, spaceAfter}
-use Rattle.table.proofs.Checked.{Not8, asked-8, lists-8, table-8, lists-passed}
+use Rattle.table.proofs.Checked.{Not8, asked-8, lists-8, lists-passed}
 use Rattle.table.proofs.Calls.{space-kept}
 use Rattle.best_plan.specs.Rows.{countOf}
 use Rattle.candidates.specs.Tried.{maxCandidates, CandidateLists, size, numbersTried, countsTried, candidatesRefusal, answersRefusal, tableRefusal, lentRefusal, rowsWith, tableTried, reported, CandidatesCalled, called, answers, candidatesCall}

@@ -1,7 +1,7 @@
 -- Worked examples of candidates (request 7 of paper 02): tables, and what each candidate is answered. And the edges: each refusal of a call with the rows looked at, and of two faults the one that is reported.
-use Prim.Native.Nat.{ℕ, _+_}
+use Prim.Native.Nat.{ℕ}
 use mathlib.Core.Path.{_≡_, refl}
-use mathlib.Core.List.{List, [], _∷_, _++_}
+use mathlib.Core.List.{List, [], _∷_}
 use lib.ListN.{replicate}
 use Rattle.basics.specs.Lists.{listOf}
 use Rattle.window.specs.declared.Kind.the-variants.{Round, Run}

@@ -1,18 +1,16 @@
 -- What a candidate is answered, from what the code asks: its row's checks, the count of the longer table, and whether the table is full.
-use Prim.Native.Nat.{ℕ, _+_, _≤_, _<_}
+use Prim.Native.Nat.{ℕ, _<_}
 use mathlib.Core.Path.{_≡_, refl, sym, ap, _∙_}
-use mathlib.Core.Bool.{Bool, true, false, cond}
 use mathlib.Core.List.{List, [], _∷_}
 use mathlib.Core.Option.{Option, none, some}
 use native.Mathlib.Omega.{arith}
 use lib.ListN.{length, length-append, length-replicate, replicate}
-use borrow.Author.Tests.{eq-eqb, ne-eqb, lt-leb}
+use borrow.Author.Tests.{eq-eqb, lt-leb}
 use Rattle.basics.specs.Limits.{maxRows}
 use Rattle.marks.proofs.Raising.{raised-within}
 use Rattle.window.specs.declared.Row.{Row}
-use Rattle.refusals.specs.declared.Refusal.{Refusal}
 use Rattle.refusals.specs.declared.Refusal.the-variants.{Rows}
-use Rattle.refusals.specs.Refusals.{numberOf, answered, _then_}
+use Rattle.refusals.specs.Refusals.{numberOf, _then_}
 use Rattle.refusals.proofs.Refusals.{Passed, then-first}
 use Rattle.table.specs.Tables.{Table, rows}
 use Rattle.table.specs.Checks.{lengthsRefusal, listsRefusal, rowRefusal, tableLooked}

@@ -7,7 +7,6 @@ use lib.Dec.{eqb}
 use lib.ListN.{length}
 use Rattle.basics.specs.Limits.{maxRows}
 use Rattle.refusals.specs.Refusals.{numberOf}
-use Rattle.table.specs.declared.Looked.{Looked}
 use Rattle.table.specs.Tables.{Table, rows}
 use Rattle.table.specs.Checks.{tableLooked}
 use Rattle.table.specs.Planned.{spaceBytes}

@@ -5,7 +5,6 @@ use Rattle.window.specs.declared.Row.{Row}
 use Rattle.best_plan.specs.Rows.{arcOf, permissionOf}
 use Rattle.table.specs.Tables.{table, rowAt}
 use lib.ListN.{length}
-use borrow.Author.Needs.{needs}
 use mathlib.Core.Path.{ap}
 use Prim.Native.Nat.{_≤_, _-_}
 use native.Mathlib.Omega.{arith}

@@ -1,8 +1,7 @@
 -- `candidates::answer_of` meets its contract: without a plan it is 8, and else the count.
-use mathlib.Core.Path.{_≡_, refl, sym}
+use mathlib.Core.Path.{_≡_, refl}
 use native.Mathlib.Omega.{arith}
 use Prim.Native.Nat.{ℕ, zero, suc, _-_}
-use Rattle.candidates.specs.declared.Tried.{Tried}
 use Rattle.candidates.specs.Lent.{triedOf}
 use borrow.Author.Needs.{needs}
 use Rattle.candidates.proofs.answer_of.Statement.{statement}

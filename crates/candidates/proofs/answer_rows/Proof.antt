@@ -1,6 +1,5 @@
 -- `candidates::answer_rows` meets its contract: beside a full table each candidate is refused 2, and else tried.
-use mathlib.Core.Path.{_≡_, refl, sym, ap, _∙_}
-use native.Mathlib.Omega.{arith}
+use mathlib.Core.Path.{_≡_, refl, ap, _∙_}
 use borrow.Author.Tests.{eq-eqb, ne-eqb}
 use lib.ListN.{replicate}
 use Rattle.basics.specs.Limits.{maxRows}

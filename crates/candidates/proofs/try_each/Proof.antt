@@ -1,5 +1,5 @@
 -- `candidates::try_each` meets its contract: each way through the checks is a way to compute `candidatesCall`.
-use mathlib.Core.Path.{_≡_, refl, sym, ap, _∙_}
+use mathlib.Core.Path.{_≡_, sym, ap, _∙_}
 use native.Mathlib.Omega.{arith}
 use Rattle.refusals.specs.declared.Refusal.the-variants.{Space}
 use Rattle.refusals.specs.Refusals.{numberOf}

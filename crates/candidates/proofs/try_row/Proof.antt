@@ -1,5 +1,5 @@
 -- `candidates::try_row` meets its contract: the row is checked as it is lent, and then counted for as one that must be heard.
-use mathlib.Core.Path.{_≡_, refl, sym, ap, _∙_}
+use mathlib.Core.Path.{refl, sym, ap, _∙_}
 use native.Mathlib.Omega.{arith}
 use Rattle.refusals.specs.Refusals.{numberOf}
 use Rattle.table.specs.Tables.{table}
