@@ -7,19 +7,19 @@ use mathlib.Core.Option.{Option, none, some}
 use native.Mathlib.Omega.{arith}
 use lib.Dec.{leb, eqb}
 use lib.ListN.{length}
-use borrow.Author.Tests.{eq-eqb, ne-eqb, eqb-true, le-leb, lt-leb}
+use borrow.Author.Tests.{eq-eqb, ne-eqb, eqb-true}
 use Rattle.basics.specs.Limits.{maxRows}
 use Rattle.basics.proofs.Tests.{eqb-iff, leb-iff, and-iff}
 use Rattle.refusals.specs.declared.Refusal.{Refusal}
 use Rattle.refusals.specs.declared.Refusal.the-variants.{Accepted, Space, NoPlan, Candidates}
 use Rattle.refusals.specs.Refusals.{numberOf, passes, _then_}
-use Rattle.refusals.proofs.Refusals.{Passed, then-first, then-next, asked-passed, then-either}
+use Rattle.refusals.proofs.Refusals.{Passed, asked-passed, then-either}
 use Rattle.table.specs.declared.Looked.{Looked}
 use Rattle.table.specs.Tables.{Table, rows}
 use Rattle.table.specs.Checks.{looked, tableLooked}
 use Rattle.table.specs.Planned.{spaceBytes, spaceRefusal, bestPlan, given, planRefusal, spaceAfter}
 use Rattle.table.proofs.Checked.{Not8, asked-8, lists-8, lists-passed}
-use Rattle.table.proofs.Calls.{space-kept}
+use Rattle.table.proofs.Calls.{space-kept, lists-first, space-next, rest-next}
 use Rattle.best_plan.specs.Rows.{countOf}
 use Rattle.candidates.specs.Tried.{maxCandidates, CandidateLists, size, numbersTried, countsTried, candidatesRefusal, answersRefusal, tableRefusal, lentRefusal, rowsWith, tableTried, reported, CandidatesCalled, called, answers, candidatesCall}
 use Rattle.candidates.specs.Lent.{CandidatesLent, TableLent, readBeside}
@@ -37,6 +37,10 @@ module _ (t : Table) (c : CandidateLists) where
 
   pub table-stops : (numberOf (tableLooked t .refusal) ≡ 0 → ⊥) → tableTried t c ≡ tableLooked t
   table-stops n = reports-so ∙ rw (ne-eqb (numberOf (tableLooked t .refusal)) 0 n) refl
+
+  -- its checks pass, from what was asked
+  pub checks-passed : {l : Looked} {n : ℕ} → l ≡ tableLooked t → n ≡ numberOf (l .refusal) → n ≡ 0 → Passed (tableLooked t .refusal)
+  checks-passed e k z = sym (ap (λ (x : Looked). numberOf (x .refusal)) e) ∙ sym k ∙ z
 
   plan-none : countOf (bestPlan t) ≡ 0 → planRefusal t ≡ NoPlan
   unfolding countOf given
@@ -112,23 +116,21 @@ module _ (t : Table) (c : CandidateLists) (numbers counts space : List ℕ) wher
   abbrev lists : Refusal
   lists = tableRefusal t
 
-  abbrev sixteen : Refusal
-  sixteen = answersRefusal c (length numbers) (length counts)
+  abbrev check-16 : Refusal
+  check-16 = answersRefusal c (length numbers) (length counts)
 
-  pub lent-so : lent ≡ (lists then spaceRefusal (length space) then sixteen)
+  pub lent-so : lent ≡ (lists then spaceRefusal (length space) then check-16)
   unfolding lentRefusal
   lent-so = refl
 
   pub lists-refuse : (numberOf lists ≡ 0 → ⊥) → lists ≡ lent
-  lists-refuse n = then-first refl _ n ∙ sym lent-so
+  lists-refuse n = lists-first lists check-16 (length space) n ∙ sym lent-so
 
   pub space-refuses : Passed lists → length space < spaceBytes → Space ≡ lent
-  unfolding spaceRefusal
-  space-refuses p h = then-next {a = lists} {r = lists} refl {b = spaceRefusal (length space) then sixteen} p (rw (lt-leb spaceBytes (length space) h) refl) ∙ sym lent-so
+  space-refuses p h = space-next lists check-16 (length space) p h ∙ sym lent-so
 
-  pub candidates-checked : Passed lists → spaceBytes ≤ length space → sixteen ≡ lent
-  unfolding spaceRefusal
-  candidates-checked p h = then-next {a = lists} {r = lists} refl {b = spaceRefusal (length space) then sixteen} p (rw (le-leb spaceBytes (length space) h) refl) ∙ sym lent-so
+  pub candidates-checked : Passed lists → spaceBytes ≤ length space → check-16 ≡ lent
+  candidates-checked p h = rest-next lists check-16 (length space) p h ∙ sym lent-so
 
   lent-8 : Not8 lent
   unfolding lentRefusal spaceRefusal candidatesRefusal
@@ -159,7 +161,7 @@ module _ (t : Table) (c : CandidateLists) (numbers counts space : List ℕ) wher
   pub table-lent : Passed lists → spaceBytes ≤ length space → TableLent t space
   table-lent p h = let l = lists-passed t (t .starts) p in record { few = l .1; each-end = l .0 .0; each-mark = l .0 .1; room = h }
 
-  pub candidates-lent : Passed sixteen → CandidatesLent c numbers counts
+  pub candidates-lent : Passed check-16 → CandidatesLent c numbers counts
   unfolding candidatesRefusal
   candidates-lent p =
       let n = size c in

@@ -7,7 +7,7 @@ use mathlib.Core.List.{List, [], _∷_}
 use mathlib.Core.Option.{Option, none, some}
 use native.Mathlib.Omega.{arith}
 use lib.Dec.{leb}
-use lib.ListN.{length, length-append, length-replicate, replicate}
+use lib.ListN.{length, length-append, length-replicate}
 use borrow.Author.Tests.{eq-eqb, ne-eqb, eqb-true, eqb-false, le-leb, leb-true}
 use Rattle.basics.specs.Limits.{maxRows}
 use Rattle.basics.specs.Lists.{at}
@@ -35,9 +35,9 @@ use Rattle.table.proofs.Changes.{rows-with, row-last, planned-ends}
 use Rattle.best_plan.specs.Rows.{countOf}
 use Rattle.planner.proofs.Answering.{table-checked}
 use Rattle.candidates.specs.declared.Tried.{Tried}
-use Rattle.candidates.specs.Tried.{mustRow, tableWith, planning, tried, CandidateLists, size, candidateAt, numbersTried, countsTried, answersRefusal, tableRefusal, lentRefusal, rowsWith, tableTried, reported, CandidatesCalled, called, answers, candidatesCall}
+use Rattle.candidates.specs.Tried.{mustRow, tableWith, tried, CandidateLists, size, candidateAt, numbersTried, countsTried, answersRefusal, tableRefusal, lentRefusal, rowsWith, tableTried, reported, CandidatesCalled, called, answers, candidatesCall}
 use Rattle.candidates.specs.Lent.{TableLent}
-use Rattle.candidates.proofs.Trying.{answer, tried-full}
+use Rattle.candidates.proofs.Trying.{answer, labels, answered-so, tried-full}
 use Rattle.candidates.proofs.Answering.{reports-so, planning-reported, table-stops, table-8-reported, lent-so, table-lent}
 use Rattle.candidates.proofs.Hearing.{plan-heard}
 
@@ -47,21 +47,14 @@ module _ (t : Table) (candidate : Row) where
   abbrev longer : Table
   longer = tableWith t candidate
 
-  abbrev labels : List ℕ
-  labels = replicate (rows longer) 0
-
-  tried-so : tried t candidate ≡ answer (numberOf (planned longer labels spaceBytes .answer .refusal)) (planned longer labels spaceBytes .answer .count)
-  unfolding tried planning
-  tried-so = refl
-
   module _ (before space : List ℕ) (l : length before ≡ rows longer) (s : spaceBytes ≤ length space) where
-    called-so : planned longer labels spaceBytes .answer ≡ planCall longer before space .answer
+    called-so : planned longer (labels t candidate) spaceBytes .answer ≡ planCall longer before space .answer
     unfolding planCall
-    called-so = answer-anyhow longer labels before spaceBytes (length space) (length-replicate (rows longer) 0 ∙ sym l) (omega arith) s
+    called-so = answer-anyhow longer (labels t candidate) before spaceBytes (length space) (length-replicate (rows longer) 0 ∙ sym l) (omega arith) s
 
     -- "ANSWER WHAT PLANNING THE TABLE WITH IT AS AN ADDED MUST ROW WOULD GIVE: number and count", whatever the planner's label list and working space hold
     pub as-planned : tried t candidate ≡ answer (numberOf (planCall longer before space .answer .refusal)) (planCall longer before space .answer .count)
-    as-planned = tried-so ∙ ap (λ (a : Answer). answer (numberOf (a .refusal)) (a .count)) called-so
+    as-planned = answered-so t candidate refl ∙ ap (λ (a : Answer). answer (numberOf (a .refusal)) (a .count)) called-so
 
 -- A candidate that is answered 0 with this count can be cast.
 pub record CanBeCast (t : Table) (candidate : Row) (count : ℕ) : Type 0 where
@@ -93,7 +86,7 @@ module _ (t : Table) (candidate : Row) where
   -- ANSWERED 0 WITH A COUNT
   pub can-be-cast : (count : ℕ) → tried t candidate ≡ answer 0 count → CanBeCast t candidate count
   can-be-cast count e =
-      let said = sym (tried-so t candidate) ∙ e in
+      let said = sym (answered-so t candidate refl) ∙ e in
       let g = accepted-given (longer t candidate) (labels t candidate) spaceBytes (ap (λ (x : Tried). x .number) said) in
       let plan = planned (longer t candidate) (labels t candidate) spaceBytes .labels in
       let same : heard plan ≡ count = sym (ap (λ (a : Answer). a .count) (g .answer)) ∙ ap (λ (x : Tried). x .count) said in
@@ -114,7 +107,7 @@ module _ (t : Table) (candidate : Row) where
       checks = checked (longer t candidate) (labels t candidate) spaceBytes
 
       said : numberOf (planned (longer t candidate) (labels t candidate) spaceBytes .answer .refusal) ≡ 8
-      said = sym (ap (λ (x : Tried). x .number) (tried-so t candidate)) ∙ e
+      said = sym (ap (λ (x : Tried). x .number) (answered-so t candidate refl)) ∙ e
 
       none-fits : (o : Option (List ℕ)) → bestPlan (longer t candidate) ≡ o → numberOf (given o (labels t candidate) .answer .refusal) ≡ 8 → bestPlan (longer t candidate) ≡ none
       none-fits none q n = q

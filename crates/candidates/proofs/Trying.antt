@@ -28,11 +28,11 @@ answer number count = record { number = number; count = count }
 
 module _ (t : Table) (candidate : Row) where
   -- the labels that planning the longer table is lent
-  abbrev labels : List ℕ
+  abbrev pub labels : List ℕ
   labels = replicate (rows (tableWith t candidate)) 0
 
   -- an answer of the planner for the longer table is the candidate's
-  answered-so : {p : Planned} → planned (tableWith t candidate) labels spaceBytes ≡ p → tried t candidate ≡ answer (numberOf (p .answer .refusal)) (p .answer .count)
+  pub answered-so : {p : Planned} → planned (tableWith t candidate) labels spaceBytes ≡ p → tried t candidate ≡ answer (numberOf (p .answer .refusal)) (p .answer .count)
   unfolding tried planning
   answered-so e = ap (λ (p : Planned). answer (numberOf (p .answer .refusal)) (p .answer .count)) e
 

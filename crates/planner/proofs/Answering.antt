@@ -7,20 +7,19 @@ use mathlib.Core.Option.{Option, none, some}
 use native.Mathlib.Omega.{arith}
 use lib.Dec.{eqb}
 use lib.ListN.{length, drop, replicate}
-use borrow.Author.Tests.{le-leb, lt-leb}
 use Rattle.line.specs.Cells.{coreBytes}
 use Rattle.refusals.specs.declared.Refusal.{Refusal}
 use Rattle.refusals.specs.declared.Refusal.the-variants.{Space}
 use Rattle.refusals.specs.declared.Answer.{Answer}
-use Rattle.refusals.specs.Refusals.{numberOf, answered, passes, _then_}
-use Rattle.refusals.proofs.Refusals.{Passed, then-first, then-next}
+use Rattle.refusals.specs.Refusals.{numberOf, answered, passes}
+use Rattle.refusals.proofs.Refusals.{Passed}
 use Rattle.table.specs.Tables.{Table}
 use Rattle.table.specs.Checks.{listsRefusal, tableLooked}
-use Rattle.table.specs.Planned.{spaceBytes, spaceRefusal, checked, bestPlan, Planned, answering, given, planned, spaceAfter, called, planCall, Demand3}
+use Rattle.table.specs.Planned.{spaceBytes, checked, bestPlan, Planned, answering, given, planned, spaceAfter, called, planCall, Demand3}
 use Rattle.best_plan.specs.Rows.{Checked}
 use Rattle.best_plan.proofs.Clearing.{space-cleared}
 use Rattle.table.proofs.Checked.{checked-8, checked-valid}
-use Rattle.table.proofs.Calls.{space-kept}
+use Rattle.table.proofs.Calls.{space-kept, lists-first, space-next, rest-next}
 use Rattle.table.proofs.Rivals.{planned-passed, planned-refused, demand-3}
 
 -- ---- a refusal
@@ -31,15 +30,15 @@ module _ (t : Table) (before space : List ℕ) where
 
   pub lists-refuses : (numberOf lists ≡ 0 → ⊥) → lists ≡ checked t before (length space)
   unfolding checked
-  lists-refuses n = then-first refl _ n
+  lists-refuses = lists-first lists (tableLooked t .refusal) (length space)
 
   pub space-refuses : Passed lists → length space < spaceBytes → Space ≡ checked t before (length space)
-  unfolding checked spaceRefusal
-  space-refuses p h = then-next {a = lists} {r = lists} refl {b = spaceRefusal (length space) then tableLooked t .refusal} p (rw (lt-leb spaceBytes (length space) h) refl)
+  unfolding checked
+  space-refuses = space-next lists (tableLooked t .refusal) (length space)
 
   pub table-checked : Passed lists → spaceBytes ≤ length space → tableLooked t .refusal ≡ checked t before (length space)
-  unfolding checked spaceRefusal
-  table-checked p h = then-next {a = lists} {r = lists} refl {b = spaceRefusal (length space) then tableLooked t .refusal} p (rw (le-leb spaceBytes (length space) h) refl)
+  unfolding checked
+  table-checked = rest-next lists (tableLooked t .refusal) (length space)
 
   -- what a call promises of what it gives
   abbrev pub Promised : Answer → List ℕ → List ℕ → Type 0

@@ -1,18 +1,18 @@
--- What a planner call gives, taken apart; and what a refused one leaves.
-use Prim.Native.Nat.{ℕ, _≤_}
+-- What a planner call gives, taken apart; what a refused one leaves; and in which order its first checks refuse.
+use Prim.Native.Nat.{ℕ, _≤_, _<_}
 use mathlib.Core.Path.{_≡_, refl, sym, ap, _∙_}
 use mathlib.Core.Bool.{Bool, true, false, cond}
 use mathlib.Core.List.{List, []}
 use mathlib.Core.Option.{Option, none, some}
 use native.Mathlib.Omega.{arith}
-use borrow.Author.Tests.{ne-eqb, eqb-true, eqb-false, le-leb}
+use borrow.Author.Tests.{ne-eqb, eqb-true, eqb-false, le-leb, lt-leb}
 use lib.ListN.{length}
 use Rattle.labels.specs.Labels.{heard}
 use Rattle.refusals.specs.declared.Refusal.{Refusal}
-use Rattle.refusals.specs.declared.Refusal.the-variants.{Accepted}
+use Rattle.refusals.specs.declared.Refusal.the-variants.{Accepted, Space}
 use Rattle.refusals.specs.declared.Answer.{Answer}
 use Rattle.refusals.specs.Refusals.{numberOf, answered, passes, _then_}
-use Rattle.refusals.proofs.Refusals.{Passed}
+use Rattle.refusals.proofs.Refusals.{Passed, then-first, then-next}
 use Rattle.table.specs.Tables.{Table, rows, Valid}
 use Rattle.table.specs.Checks.{lengthsRefusal, tableLooked}
 use Rattle.table.specs.Planned.{spaceBytes, spaceRefusal, checked, bestPlan, Planned, answering, given, planned, spaceAfter, PlanCalled, called, planCall}
@@ -93,3 +93,17 @@ answer-anyhow t before before′ space space′ l a b =
     checks =
         rw (le-leb spaceBytes space a, le-leb spaceBytes space′ b)
         (ap (λ n. lengthsRefusal (rows t) (length (t .ends)) (length (t .marks)) n then tableLooked t .refusal) l)
+
+-- ---- the lists, then the working space, then the rest
+
+module _ (lists rest : Refusal) (space : ℕ) where
+  pub lists-first : (numberOf lists ≡ 0 → ⊥) → lists ≡ (lists then spaceRefusal space then rest)
+  lists-first n = then-first refl _ n
+
+  pub space-next : Passed lists → space < spaceBytes → Space ≡ (lists then spaceRefusal space then rest)
+  unfolding spaceRefusal
+  space-next p h = then-next {a = lists} {r = lists} refl {b = spaceRefusal space then rest} p (rw (lt-leb spaceBytes space h) refl)
+
+  pub rest-next : Passed lists → spaceBytes ≤ space → rest ≡ (lists then spaceRefusal space then rest)
+  unfolding spaceRefusal
+  rest-next p h = then-next {a = lists} {r = lists} refl {b = spaceRefusal space then rest} p (rw (le-leb spaceBytes space h) refl)

@@ -66,8 +66,8 @@ try-table-requires c κs =
     let t = table (g .setting) (g .starts .now) (g .ends .now) (g .marks .now) in
     let l = candidates (g .candidate-starts .now) (g .candidate-ends .now) (g .candidate-marks .now) in
     let lists = sym (ap numberOf (c .before .before .before .before .before .before .before .before .before .check-lists .ensures)) ∙ sym (c .before .before .before .before .before .before .before .before .number .ensures) ∙ c .before .before .before .before .before .before .before .if1 .left in
-    let sixteen = sym (ap numberOf (c .before .before .before .before .before .check-candidates .ensures)) ∙ sym (c .before .before .before .before .number2 .ensures) ∙ c .before .before .before .if3 .left in
-    (table-lent t l (g .numbers .now) (g .counts .now) (g .space .now) lists (c .before .before .before .before .before .before .if2 .left), candidates-lent t l (g .numbers .now) (g .counts .now) (g .space .now) sixteen)
+    let answers = sym (ap numberOf (c .before .before .before .before .before .check-candidates .ensures)) ∙ sym (c .before .before .before .before .number2 .ensures) ∙ c .before .before .before .if3 .left in
+    (table-lent t l (g .numbers .now) (g .counts .now) (g .space .now) lists (c .before .before .before .before .before .before .if2 .left), candidates-lent t l (g .numbers .now) (g .counts .now) (g .space .now) answers)
 
 same-length : tie.Need-same-length
 same-length c = search needs
@@ -84,8 +84,8 @@ returns-4 c =
     let t = table (g .setting) (g .starts .now) (g .ends .now) (g .marks .now) in
     let l = candidates (g .candidate-starts .now) (g .candidate-ends .now) (g .candidate-marks .now) in
     let lists = sym (ap numberOf (c .before .before .before .before .before .before .before .before .before .before .before .before .before .before .before .before .check-lists .ensures)) ∙ sym (c .before .before .before .before .before .before .before .before .before .before .before .before .before .before .before .number .ensures) ∙ c .before .before .before .before .before .before .before .before .before .before .before .before .before .before .if1 .left in
-    let sixteen = sym (ap numberOf (c .before .before .before .before .before .before .before .before .before .before .before .before .check-candidates .ensures)) ∙ sym (c .before .before .before .before .before .before .before .before .before .before .before .number2 .ensures) ∙ c .before .before .before .before .before .before .before .before .before .before .if3 .left in
-    c .before .before .before .before .before .before .try-table .ensures ∙ lent-passed t l (g .numbers .now) (g .counts .now) (g .space .now) (sym (ap numberOf (candidates-checked t l (g .numbers .now) (g .counts .now) (g .space .now) lists (c .before .before .before .before .before .before .before .before .before .before .before .before .before .if2 .left))) ∙ sixteen)
+    let answers = sym (ap numberOf (c .before .before .before .before .before .before .before .before .before .before .before .before .check-candidates .ensures)) ∙ sym (c .before .before .before .before .before .before .before .before .before .before .before .number2 .ensures) ∙ c .before .before .before .before .before .before .before .before .before .before .if3 .left in
+    c .before .before .before .before .before .before .try-table .ensures ∙ lent-passed t l (g .numbers .now) (g .counts .now) (g .space .now) (sym (ap numberOf (candidates-checked t l (g .numbers .now) (g .counts .now) (g .space .now) lists (c .before .before .before .before .before .before .before .before .before .before .before .before .before .if2 .left))) ∙ answers)
 
 pub try-each-spec : {M : Type 1} → statement M
 try-each-spec =

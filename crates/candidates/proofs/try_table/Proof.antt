@@ -4,14 +4,13 @@ use native.Mathlib.Omega.{arith}
 use Prim.Native.Nat.{_+_}
 use Rattle.refusals.specs.declared.Refusal.the-variants.{Accepted, NoPlan}
 use Rattle.refusals.specs.Refusals.{numberOf}
-use Rattle.refusals.proofs.Refusals.{Passed}
 use Rattle.table.specs.declared.Looked.{Looked}
 use Rattle.table.specs.Tables.{table, rows}
 use Rattle.table.specs.Checks.{looked, tableLooked}
 use Rattle.table.proofs.Checked.{table-8, table-passed, table-looked}
 use Rattle.best_plan.proofs.Clearing.{space-cleared}
 use Rattle.candidates.specs.Tried.{candidates, rowsWith, called, answers}
-use Rattle.candidates.proofs.Answering.{table-stops, table-8-reported, table-taken, rows-read, read-most, refused-so, no-plan-so, accepted-so}
+use Rattle.candidates.proofs.Answering.{checks-passed, table-stops, table-8-reported, table-taken, rows-read, read-most, refused-so, no-plan-so, accepted-so}
 use borrow.Author.Needs.{needs}
 use Rattle.candidates.proofs.try_table.Statement.{statement}
 use Rattle.candidates.proofs.try_table.Tie as tie
@@ -38,7 +37,8 @@ count-checked-requires c κs =
     let g = c .before .before .before .before .before .before .before .before .before .before .before .before .before .args in
     let p = c .before .before .before .before .before .before .before .before .before .before .before .before .before .pre .0 in
     let t = table (g .setting) (g .starts .now) (g .ends .now) (g .marks .now) in
-    let passed : Passed (tableLooked t .refusal) = sym (ap (λ (x : Looked). numberOf (x .refusal)) (c .before .before .before .check-table .ensures)) ∙ sym (c .before .before .number .ensures) ∙ c .before .if1 .left in
+    let l = candidates (g .candidate-starts .now) (g .candidate-ends .now) (g .candidate-marks .now) in
+    let passed = checks-passed t l (c .before .before .before .check-table .ensures) (c .before .before .number .ensures) (c .before .if1 .left) in
     record { valid = table-passed t passed (p .few); room = omega (arith, p .room) }
 
 clear-space-requires : tie.Need-clear-space-requires
@@ -56,7 +56,7 @@ returns-2 c =
     let t = table (g .setting) (g .starts .now) (g .ends .now) (g .marks .now) in
     let l = candidates (g .candidate-starts .now) (g .candidate-ends .now) (g .candidate-marks .now) in
     let e = c .before .before .before .before .before .before .before .before .before .before .before .before .check-table .ensures in
-    let passed : Passed (tableLooked t .refusal) = sym (ap (λ (x : Looked). numberOf (x .refusal)) e) ∙ sym (c .before .before .before .before .before .before .before .before .before .before .before .number .ensures) ∙ c .before .before .before .before .before .before .before .before .before .before .if1 .left in
+    let passed = checks-passed t l e (c .before .before .before .before .before .before .before .before .before .before .before .number .ensures) (c .before .before .before .before .before .before .before .before .before .before .if1 .left) in
     let all = ap (λ (x : Looked). x .rows) e ∙ table-looked t passed in
     let count = c .before .before .before .before .before .before .before .before .count-checked .ensures in
     let report = c .looked-at .ensures ∙ ap (looked NoPlan) all in
@@ -70,7 +70,8 @@ answer-rows-requires c κs =
     let p = c .before .before .before .before .before .before .before .before .before .before .before .before .before .before .before .before .before .before .before .before .pre in
     let q = p .0 in
     let t = table (g .setting) (g .starts .now) (g .ends .now) (g .marks .now) in
-    let passed : Passed (tableLooked t .refusal) = sym (ap (λ (x : Looked). numberOf (x .refusal)) (c .before .before .before .before .before .before .before .before .before .before .check-table .ensures)) ∙ sym (c .before .before .before .before .before .before .before .before .before .number .ensures) ∙ c .before .before .before .before .before .before .before .before .if1 .left in
+    let l = candidates (g .candidate-starts .now) (g .candidate-ends .now) (g .candidate-marks .now) in
+    let passed = checks-passed t l (c .before .before .before .before .before .before .before .before .before .before .check-table .ensures) (c .before .before .before .before .before .before .before .before .before .number .ensures) (c .before .before .before .before .before .before .before .before .if1 .left) in
     (record { lent = record { few = q .few; each-end = q .each-end; each-mark = q .each-mark; room = omega (arith, q .room, c .before .before .before .before .before .before .count-checked .kept .1 .1 .1 .1 .0) }; looked = passed }, p .1)
 
 clear-space-requires-2 : tie.Need-clear-space-requires-2
@@ -84,7 +85,7 @@ add-looked-at c =
     let t = table (g .setting) (g .starts .now) (g .ends .now) (g .marks .now) in
     let l = candidates (g .candidate-starts .now) (g .candidate-ends .now) (g .candidate-marks .now) in
     let e = c .before .before .before .before .before .before .before .before .before .before .before .before .before .before .before .before .before .before .before .before .before .check-table .ensures in
-    let passed : Passed (tableLooked t .refusal) = sym (ap (λ (x : Looked). numberOf (x .refusal)) e) ∙ sym (c .before .before .before .before .before .before .before .before .before .before .before .before .before .before .before .before .before .before .before .before .number .ensures) ∙ c .before .before .before .before .before .before .before .before .before .before .before .before .before .before .before .before .before .before .before .if1 .left in
+    let passed = checks-passed t l e (c .before .before .before .before .before .before .before .before .before .before .before .before .before .before .before .before .before .before .before .before .number .ensures) (c .before .before .before .before .before .before .before .before .before .before .before .before .before .before .before .before .before .before .before .if1 .left) in
     omega (arith, p .0 .few, p .1 .few, ap (λ (x : Looked). x .rows) e, table-looked t passed, c .before .before .before .before .before .before .before .before .before .before .answer-rows .ensures .0, read-most t l)
 
 looked-at-requires-2 : tie.Need-looked-at-requires-2
@@ -105,7 +106,7 @@ returns-3 c =
     let t = table (g .setting) (g .starts .now) (g .ends .now) (g .marks .now) in
     let l = candidates (g .candidate-starts .now) (g .candidate-ends .now) (g .candidate-marks .now) in
     let e = c .before .before .before .before .before .before .before .before .before .before .before .before .before .before .before .before .before .before .before .before .before .before .check-table .ensures in
-    let passed : Passed (tableLooked t .refusal) = sym (ap (λ (x : Looked). numberOf (x .refusal)) e) ∙ sym (c .before .before .before .before .before .before .before .before .before .before .before .before .before .before .before .before .before .before .before .before .before .number .ensures) ∙ c .before .before .before .before .before .before .before .before .before .before .before .before .before .before .before .before .before .before .before .before .if1 .left in
+    let passed = checks-passed t l e (c .before .before .before .before .before .before .before .before .before .before .before .before .before .before .before .before .before .before .before .before .before .number .ensures) (c .before .before .before .before .before .before .before .before .before .before .before .before .before .before .before .before .before .before .before .before .if1 .left) in
     let all = ap (λ (x : Looked). x .rows) e ∙ table-looked t passed in
     let count = c .before .before .before .before .before .before .before .before .before .before .before .before .before .before .before .before .before .before .count-checked .ensures in
     let given = c .before .before .before .before .before .before .before .before .before .before .before .answer-rows .ensures in
