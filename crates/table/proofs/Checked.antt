@@ -31,16 +31,16 @@ cond-passed : (x : Bool) (a b : Looked) → 1 ≤ numberOf (b .refusal) → Pass
 cond-passed true a b h p = (refl, p)
 cond-passed false a b h p = absurd (omega arith)
 
-pub lists-passed : (t : Table) (labels : List ℕ) → Passed (listsRefusal t labels) → ((length (t .ends) ≡ rows t) × (length (t .marks) ≡ rows t) × (length labels ≡ rows t)) × (rows t ≤ 64)
+-- by the lengths of the four lists
+pub lengths-passed : (n e m l : ℕ) → Passed (lengthsRefusal n e m l) → ((e ≡ n) × (m ≡ n) × (l ≡ n)) × (n ≤ 64)
 unfolding lengthsRefusal
-lists-passed t labels p =
-    let n = rows t in
-    let e = length (t .ends) in
-    let m = length (t .marks) in
-    let l = length labels in
+lengths-passed n e m l p =
     let f = then-passed (asked (eqb e n && eqb m n && eqb l n) Lists) (asked (leb n 64) Rows) p in
     let s = and-iff (and-iff (eqb-iff e n) (eqb-iff m n)) (eqb-iff l n) .0 (asked-passed (eqb e n && eqb m n && eqb l n) Lists (omega arith) (f .0)) in
     ((s .0 .0, s .0 .1, s .1), leb-true n 64 (asked-passed (leb n 64) Rows (omega arith) (f .1)))
+
+pub lists-passed : (t : Table) (labels : List ℕ) → Passed (listsRefusal t labels) → ((length (t .ends) ≡ rows t) × (length (t .marks) ≡ rows t) × (length labels ≡ rows t)) × (rows t ≤ 64)
+lists-passed t labels = lengths-passed (rows t) (length (t .ends)) (length (t .marks)) (length labels)
 
 -- a check r before the others, as `cond` has it
 pub then-looked : (r : Refusal) (n : ℕ) (rest : Looked) → Passed (cond (passes r) rest (looked r n) .refusal) → Passed r × Passed (rest .refusal)

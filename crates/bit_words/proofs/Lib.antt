@@ -1,0 +1,5 @@
+-- Laws behind the crate `bit_words`.
+pub mod BitLaws
+pub mod Carrying
+pub mod Clashing
+pub mod Answering
