@@ -30,7 +30,7 @@ enum hub_refusal {
     HUB_WINDOW = 6,      /* a window breaks the rules: in a round start and end below ticks, equal or not; in a run start below end and end at most ticks */
     HUB_MARK = 7,        /* a mark above 5 */
     HUB_NO_PLAN = 8,     /* no plan exists */
-    HUB_NOT_PLAN = 9,    /* labels offered to the writer are not a plan */
+    HUB_NOT_PLAN = 9,    /* labels offered to the writer are not a plan; in hub_words_of_labels and hub_labels_of_words, labels or words that cannot be carried */
     HUB_BUFFER = 10,     /* plan tape buffer shorter than the tape */
     HUB_FORM = 11,       /* not of the form of a fleet tape */
     HUB_TAPE = 12,       /* not a plan tape that the writer can write, for any table and labels */
@@ -336,6 +336,57 @@ struct hub_tried hub_try_candidates_run(uint16_t ticks, uint16_t gap, uint16_t p
                                         uint8_t *numbers, size_t numbers_length,
                                         uint8_t *counts, size_t counts_length,
                                         uint8_t *space, size_t space_length);
+
+/* One bit per row: bit i of a 64-bit word, which is worth 2 to the i, is row i's. In every word that is given, the bits from the row count up are 0. */
+
+/* What labels are as words: the refusal, the number heard, and the two words. All but the refusal are 0 on a refusal. */
+struct hub_label_words {
+    uint8_t refusal;
+    size_t count;
+    uint64_t heard;
+    uint64_t receiver;
+};
+
+/* What marks are as a word: the refusal and the word, which is 0 on a refusal. */
+struct hub_must_word {
+    uint8_t refusal;
+    uint64_t word;
+};
+
+/* The words of labels, of which there is one a row. A heard bit is 1 exactly if the label is 1 or 2. A receiver bit is 1 exactly if the label is 2, so it is 0 for receiver 1
+ * and for a row not heard. The count is the number heard, which is the number of ones of the heard word.
+ *
+ * Accepted exactly if there are up to HUB_MOST_ROWS labels, each 0, 1 or 2: no table is asked, so they need be no plan. hub_labels_of_words gives the same labels back.
+ * Order: 2, then 9 for a label above 2. */
+struct hub_label_words hub_words_of_labels(const uint8_t *labels, size_t labels_length);
+
+/* The labels of words. The row count is the length of the lent list, and each of its places is written: 0 where the heard bit is 0, else 1 or 2 by the receiver bit. The count
+ * is the number heard.
+ *
+ * Accepted exactly if the list has up to HUB_MOST_ROWS places and the words are those of some labels of so many rows. hub_words_of_labels gives the same words back. On a
+ * refusal the list is untouched. Order: 2, then 9 for a receiver bit of a row not heard, or a one from the row count up in either word. */
+struct hub_answer hub_labels_of_words(uint64_t heard, uint64_t receiver, uint8_t *labels, size_t labels_length);
+
+/* The must word of marks, of which there is one a row: a bit is 1 exactly for marks 1, 3 and 5. No mark is refused, and one above 5 has bit 0. Marks are not converted back.
+ * Refusal 2 exactly if there are more than HUB_MOST_ROWS marks. */
+struct hub_must_word hub_must_of_marks(const uint8_t *marks, size_t marks_length);
+
+/* The clash words of a round, one for each row: bit j of row i's word is 1 exactly if i and j are different rows whose windows overlap or have fewer than `gap` ticks between
+ * them, on either side of the round, so that no receiver can hear both. A row's own bit is 0, and bit j of row i's word is bit i of row j's. Marks and hours make no difference,
+ * and none are lent.
+ *
+ * Gives the refusal. Accepted: each place of words is written, and what it held before makes no difference. On a refusal words are untouched. Order: 1 (starts, ends and words),
+ * 2, 4, 14, then the rows from 0, each for 6. */
+uint8_t hub_clash_words_round(uint16_t ticks, uint16_t gap,
+                              const uint16_t *starts, size_t starts_length,
+                              const uint16_t *ends, size_t ends_length,
+                              uint64_t *words, size_t words_length);
+
+/* The same for a run, in which no gap is counted from the last window on to the first. */
+uint8_t hub_clash_words_run(uint16_t ticks, uint16_t gap,
+                            const uint16_t *starts, size_t starts_length,
+                            const uint16_t *ends, size_t ends_length,
+                            uint64_t *words, size_t words_length);
 
 #ifdef __cplusplus
 }

@@ -1,6 +1,6 @@
 /* Tests include/hubplan.h by itself: every function is called as the header declares it, on paper 01's session, on runs with unequal hours, with each mark, with windows that
- * cover every tick, with gaps, on held tables, with candidates, at each limit and for each refusal, and every constant, field and parameter is compared with the papers'. The
- * numbers here are the papers', since the header's constants are what is tested.
+ * cover every tick, with gaps, on held tables, with candidates, with words of one bit per row, at each limit and for each refusal, and every constant, field and parameter is
+ * compared with the papers'. The numbers here are the papers', since the header's constants are what is tested.
  *
  *   gcc -std=c99 -Wall -Wextra -Wpedantic -Werror -Iinclude tests/header.c target/staticlib/libhub_c.a -o target/header && target/header
  */
@@ -22,6 +22,11 @@
 #define hub_held_withdraw(...) hub_held_withdraw(__VA_ARGS__); static const char held_withdraw_takes[] __attribute__((unused)) = #__VA_ARGS__
 #define hub_try_candidates_round(...) hub_try_candidates_round(__VA_ARGS__); static const char try_round_takes[] = #__VA_ARGS__
 #define hub_try_candidates_run(...) hub_try_candidates_run(__VA_ARGS__); static const char try_run_takes[] = #__VA_ARGS__
+#define hub_words_of_labels(...) hub_words_of_labels(__VA_ARGS__); static const char words_of_labels_takes[] = #__VA_ARGS__
+#define hub_labels_of_words(...) hub_labels_of_words(__VA_ARGS__); static const char labels_of_words_takes[] = #__VA_ARGS__
+#define hub_must_of_marks(...) hub_must_of_marks(__VA_ARGS__); static const char must_of_marks_takes[] = #__VA_ARGS__
+#define hub_clash_words_round(...) hub_clash_words_round(__VA_ARGS__); static const char clash_round_takes[] = #__VA_ARGS__
+#define hub_clash_words_run(...) hub_clash_words_run(__VA_ARGS__); static const char clash_run_takes[] = #__VA_ARGS__
 #include "hubplan.h"
 #undef hub_plan_round
 #undef hub_plan_run
@@ -36,6 +41,11 @@
 #undef hub_held_withdraw
 #undef hub_try_candidates_round
 #undef hub_try_candidates_run
+#undef hub_words_of_labels
+#undef hub_labels_of_words
+#undef hub_must_of_marks
+#undef hub_clash_words_round
+#undef hub_clash_words_run
 
 #define ROWS 64
 #define SPACE 16384
@@ -84,6 +94,10 @@ struct fleet {
 static uint8_t space[SPACE + BEYOND];
 static uint8_t tape[TAPE + BEYOND];
 static uint8_t out[REPLY + BEYOND];
+
+/* What words go to and labels of words, with room on both sides, which no call may touch either. */
+static uint64_t word_room[BEYOND + ROWS + 1 + BEYOND];
+static uint8_t label_room[BEYOND + ROWS + 1 + BEYOND];
 
 /* The header's refusals at the papers' numbers. */
 static const unsigned refusals[17] = {HUB_ACCEPTED, HUB_LISTS,   HUB_ROWS,     HUB_SPACE,  HUB_TICKS, HUB_HOURS, HUB_WINDOW, HUB_MARK,
@@ -684,6 +698,97 @@ static void try_refused(const char *what, struct tries *c, unsigned number, size
     check_space(what, number == 8);
 }
 
+/* ---- words ---- */
+
+static void words_given(const char *what, const uint8_t *labels, size_t rows, uint64_t heard, uint64_t receiver, size_t count)
+{
+    struct hub_label_words w = hub_words_of_labels(labels, rows);
+    check_refusal(what, w.refusal, 0);
+    check(what, "the heard word", w.heard == heard);
+    check(what, "the receiver word", w.receiver == receiver);
+    check(what, "the number heard", w.count == count);
+}
+
+static void words_refused(const char *what, const uint8_t *labels, size_t rows, unsigned number)
+{
+    struct hub_label_words w = hub_words_of_labels(labels, rows);
+    check_refusal(what, w.refusal, number);
+    check(what, "words of 0", w.heard == 0 && w.receiver == 0);
+    check(what, "the count is 0", w.count == 0);
+}
+
+static struct hub_answer labels_of(uint64_t heard, uint64_t receiver, size_t rows)
+{
+    memset(label_room, BEFORE, sizeof label_room);
+    return hub_labels_of_words(heard, receiver, label_room + BEYOND, rows);
+}
+
+static void labels_given(const char *what, uint64_t heard, uint64_t receiver, const uint8_t *labels, size_t rows, size_t count)
+{
+    struct hub_answer answer = labels_of(heard, receiver, rows);
+    check_refusal(what, answer.refusal, 0);
+    check(what, "the number heard", answer.count == count);
+    check(what, "the labels", memcmp(label_room + BEYOND, labels, rows) == 0);
+    check(what, "the bytes before the labels", all_are(label_room, BEYOND, BEFORE));
+    check(what, "the bytes beyond the labels", all_are(label_room + BEYOND + rows, sizeof label_room - BEYOND - rows, BEFORE));
+}
+
+static void labels_refused(const char *what, uint64_t heard, uint64_t receiver, size_t rows, unsigned number)
+{
+    struct hub_answer answer = labels_of(heard, receiver, rows);
+    check_refusal(what, answer.refusal, number);
+    check(what, "the count is 0", answer.count == 0);
+    check(what, "the labels are untouched", all_are(label_room, sizeof label_room, BEFORE));
+}
+
+/* Labels and words that carry them, either way. */
+static void carried(const char *what, const uint8_t *labels, size_t rows, uint64_t heard, uint64_t receiver, size_t count)
+{
+    words_given(what, labels, rows, heard, receiver, count);
+    labels_given(what, heard, receiver, labels, rows, count);
+}
+
+/* The same for labels as text. */
+static void carried_text(const char *text, uint64_t heard, uint64_t receiver, size_t count)
+{
+    uint8_t labels[ROWS + 1];
+    size_t rows = strlen(text);
+    for (size_t i = 0; i < rows; i++)
+        labels[i] = (uint8_t)(text[i] - '0');
+    carried(text, labels, rows, heard, receiver, count);
+}
+
+static void must_given(const char *what, const uint8_t *marks, size_t rows, uint64_t word)
+{
+    struct hub_must_word m = hub_must_of_marks(marks, rows);
+    check_refusal(what, m.refusal, 0);
+    check(what, "the must word", m.word == word);
+}
+
+/* Clash words go to so many places. */
+static uint8_t clash_words(const struct lent *t, size_t places)
+{
+    memset(word_room, BEFORE, sizeof word_room);
+    if (t->run)
+        return hub_clash_words_run(t->ticks, t->gap, t->starts, t->starts_length, t->ends, t->ends_length, word_room + BEYOND, places);
+    return hub_clash_words_round(t->ticks, t->gap, t->starts, t->starts_length, t->ends, t->ends_length, word_room + BEYOND, places);
+}
+
+static void clashed(const char *what, const struct lent *t, const uint64_t *words)
+{
+    size_t rows = t->starts_length;
+    check_refusal(what, clash_words(t, rows), 0);
+    check(what, "the clash words", memcmp(word_room + BEYOND, words, rows * sizeof *words) == 0);
+    check(what, "the words before", all_are(word_room, BEYOND * sizeof *words, BEFORE));
+    check(what, "the words beyond", all_are(word_room + BEYOND + rows, sizeof word_room - (BEYOND + rows) * sizeof *words, BEFORE));
+}
+
+static void clash_refused(const char *what, const struct lent *t, size_t places, unsigned number)
+{
+    check_refusal(what, clash_words(t, places), number);
+    check(what, "the words are untouched", all_are(word_room, sizeof word_room, BEFORE));
+}
+
 /* ---- the groups ---- */
 
 static void constants(void)
@@ -754,6 +859,16 @@ static void structs(void)
     check("hub_tried", "sizes", sizeof(struct hub_tried) == 16 && sizeof((struct hub_tried){0, 0}).refusal == 1 && sizeof((struct hub_tried){0, 0}).rows == 8);
     check("hub_tried", "refusal", offsetof(struct hub_tried, refusal) == 0);
     check("hub_tried", "rows", offsetof(struct hub_tried, rows) == 8);
+    struct hub_label_words w;
+    struct hub_must_word m;
+    check("hub_label_words", "sizes", sizeof w == 32 && sizeof w.refusal == 1 && sizeof w.count == 8 && sizeof w.heard == 8 && sizeof w.receiver == 8);
+    check("hub_label_words", "refusal", offsetof(struct hub_label_words, refusal) == 0);
+    check("hub_label_words", "count", offsetof(struct hub_label_words, count) == 8);
+    check("hub_label_words", "heard", offsetof(struct hub_label_words, heard) == 16);
+    check("hub_label_words", "receiver", offsetof(struct hub_label_words, receiver) == 24);
+    check("hub_must_word", "sizes", sizeof m == 16 && sizeof m.refusal == 1 && sizeof m.word == 8);
+    check("hub_must_word", "refusal", offsetof(struct hub_must_word, refusal) == 0);
+    check("hub_must_word", "word", offsetof(struct hub_must_word, word) == 8);
     check("hub_held_table", "places", sizeof h.starts == 2 * ROWS && sizeof h.ends == 2 * ROWS && sizeof h.marks == ROWS && sizeof h.labels == ROWS);
     end_group("structs");
 }
@@ -766,6 +881,7 @@ static void structs(void)
 #define TRIES ", const uint16_t *candidate_starts, size_t candidate_starts_length, const uint16_t *candidate_ends, size_t candidate_ends_length, " \
               "const uint8_t *candidate_marks, size_t candidate_marks_length, uint8_t *numbers, size_t numbers_length, uint8_t *counts, size_t counts_length, " \
               "uint8_t *space, size_t space_length"
+#define CLASHES ", const uint16_t *starts, size_t starts_length, const uint16_t *ends, size_t ends_length, uint64_t *words, size_t words_length"
 #define HELD "struct hub_held_numbers numbers, uint16_t *starts, size_t starts_length, uint16_t *ends, size_t ends_length, uint8_t *marks, size_t marks_length"
 
 static void parameters(void)
@@ -787,6 +903,12 @@ static void parameters(void)
                                                                          "uint8_t *space, size_t space_length") == 0);
     check("hub_try_candidates_round", "parameters", strcmp(try_round_takes, TICKS TABLE TRIES) == 0);
     check("hub_try_candidates_run", "parameters", strcmp(try_run_takes, TICKS HOURS TABLE TRIES) == 0);
+    check("hub_words_of_labels", "parameters", strcmp(words_of_labels_takes, "const uint8_t *labels, size_t labels_length") == 0);
+    check("hub_labels_of_words", "parameters",
+          strcmp(labels_of_words_takes, "uint64_t heard, uint64_t receiver, uint8_t *labels, size_t labels_length") == 0);
+    check("hub_must_of_marks", "parameters", strcmp(must_of_marks_takes, "const uint8_t *marks, size_t marks_length") == 0);
+    check("hub_clash_words_round", "parameters", strcmp(clash_round_takes, TICKS CLASHES) == 0);
+    check("hub_clash_words_run", "parameters", strcmp(clash_run_takes, TICKS CLASHES) == 0);
     end_group("parameters");
 }
 
@@ -1803,6 +1925,246 @@ static void all_candidate_refusals(void)
     end_group("refusals of candidates");
 }
 
+/* Ones for the rows below. */
+static uint64_t ones_below(size_t rows)
+{
+    return rows < 64 ? ((uint64_t)1 << rows) - 1 : UINT64_MAX;
+}
+
+static uint64_t one_at(size_t row)
+{
+    return (uint64_t)1 << row;
+}
+
+/* Labels worked out by hand, either way; each row alone and each row apart from the others, for each row count. */
+static void words_of_labels(void)
+{
+    uint8_t labels[ROWS];
+    carried_text("", 0, 0, 0);
+    carried_text("0", 0, 0, 0);
+    carried_text("1", 1, 0, 1);
+    carried_text("2", 1, 1, 1);
+    carried_text("1201", 0xB, 0x2, 3); /* P2 */
+    carried_text("021", 0x6, 0x2, 2);
+    carried_text("220000001", 0x103, 0x3, 3);
+    for (size_t rows = 1; rows <= ROWS; rows++)
+        for (size_t row = 0; row < rows; row++) {
+            memset(labels, 0, sizeof labels);
+            labels[row] = 1;
+            carried("receiver 1 hears one row", labels, rows, one_at(row), 0, 1);
+            labels[row] = 2;
+            carried("receiver 2 hears one row", labels, rows, one_at(row), one_at(row), 1);
+            memset(labels, 1, sizeof labels);
+            labels[row] = 0;
+            carried("one row is not heard", labels, rows, ones_below(rows) - one_at(row), 0, rows - 1);
+            labels[row] = 2;
+            carried("one row is receiver 2's", labels, rows, ones_below(rows), one_at(row), rows);
+            memset(labels, 2, sizeof labels);
+            carried("all rows are receiver 2's", labels, rows, ones_below(rows), ones_below(rows), rows);
+        }
+    end_group("labels as words");
+}
+
+/* Every label above 2, first, last and between; 65 labels, with one above 2 too. */
+static void words_of_labels_refused(void)
+{
+    uint8_t labels[ROWS + 1];
+    for (unsigned label = 3; label < 256; label++)
+        for (size_t row = 0; row < ROWS; row += 21) {
+            memset(labels, 2, sizeof labels);
+            labels[row] = (uint8_t)label;
+            words_refused("a label above 2 of 64", labels, ROWS, 9);
+            words_refused("a label above 2 at the end", labels, row + 1, 9);
+            words_given("a label above 2 beyond the list", labels, row, ones_below(row), ones_below(row), row);
+            words_refused("65 labels, one above 2", labels, ROWS + 1, 2);
+        }
+    memset(labels, 1, sizeof labels);
+    words_refused("65 labels", labels, ROWS + 1, 2);
+    end_group("labels that cannot be carried");
+}
+
+/* A one at each place of each word, for each row count: below it and from it up; and a receiver bit of a row not heard, below it. */
+static void labels_of_words_refused(void)
+{
+    for (size_t rows = 0; rows <= ROWS; rows++) {
+        uint64_t all = ones_below(rows);
+        for (size_t row = 0; row < rows; row++) {
+            labels_refused("a receiver bit alone", 0, one_at(row), rows, 9);
+            labels_refused("a receiver bit of the row not heard", all - one_at(row), one_at(row), rows, 9);
+            labels_refused("all receiver bits, a row not heard", all - one_at(row), all, rows, 9);
+        }
+        for (size_t place = rows; place < 64; place++) {
+            labels_refused("a one from the row count up, heard", one_at(place), 0, rows, 9);
+            labels_refused("a one from the row count up, receiver", 0, one_at(place), rows, 9);
+            labels_refused("a one from the row count up, both", all + one_at(place), all + one_at(place), rows, 9);
+            labels_refused("a one from the row count up beside all rows", all + one_at(place), all, rows, 9);
+            labels_refused("a receiver bit from the row count up beside all rows", all, all + one_at(place), rows, 9);
+        }
+    }
+    labels_refused("65 places", 0, 0, ROWS + 1, 2);
+    labels_refused("65 places, all heard", UINT64_MAX, UINT64_MAX, ROWS + 1, 2);
+    labels_refused("65 places, a receiver bit of a row not heard", 0, 1, ROWS + 1, 2);
+    end_group("words that cannot be carried");
+}
+
+/* Every mark at each place, beside marks 0 and beside marks 1; 64 and 65 marks. */
+static void must_words(void)
+{
+    uint8_t marks[ROWS + 1] = {0, 1, 2, 3, 4, 5, 6, 7};
+    must_given("no marks", marks, 0, 0);
+    must_given("marks 0 to 7", marks, 8, 0x2A);
+    for (unsigned mark = 0; mark < 256; mark++) {
+        bool must = mark == 1 || mark == 3 || mark == 5;
+        for (size_t row = 0; row < ROWS; row++) {
+            memset(marks, 0, sizeof marks);
+            marks[row] = (uint8_t)mark;
+            must_given("a mark beside marks 0", marks, ROWS, must ? one_at(row) : 0);
+            must_given("a mark at the end", marks, row + 1, must ? one_at(row) : 0);
+            must_given("a mark beyond the list", marks, row, 0);
+            memset(marks, 1, sizeof marks);
+            marks[row] = (uint8_t)mark;
+            must_given("a mark beside marks 1", marks, ROWS, must ? UINT64_MAX : UINT64_MAX - one_at(row));
+        }
+    }
+    memset(marks, 1, sizeof marks);
+    struct hub_must_word m = hub_must_of_marks(marks, ROWS + 1);
+    check_refusal("65 marks", m.refusal, 2);
+    check("65 marks", "a word of 0", m.word == 0);
+    end_group("must words");
+}
+
+/* P2 and P9 with gaps, windows that touch, at R and all day, worked out by hand. */
+static void clash_examples(void)
+{
+    static const struct { uint16_t gap; uint64_t words[4]; } of_p2[5] = {
+        {0, {0x6, 0x5, 0x3, 0x0}}, {1, {0xE, 0x5, 0x3, 0x1}}, {10, {0xE, 0x5, 0x3, 0x1}}, {11, {0xE, 0xD, 0x3, 0x3}}, {16, {0xE, 0xD, 0xB, 0x7}}};
+    static const struct { uint16_t gap; uint64_t words[3]; } of_p9[2] = {{0, {0x6, 0x1, 0x1}}, {1, {0x6, 0x5, 0x3}}};
+    struct lent t = session();
+    for (size_t i = 0; i < 5; i++) {
+        t.gap = of_p2[i].gap;
+        clashed("P2", &t, of_p2[i].words);
+    }
+    t = p9();
+    for (size_t i = 0; i < 2; i++) {
+        t.gap = of_p9[i].gap;
+        clashed("P9", &t, of_p9[i].words);
+    }
+    static const uint64_t none[4] = {0}, each_other[2] = {0x2, 0x1}, all_day[4] = {0xE, 0xD, 0x3, 0x3};
+    uint16_t ends_of_day[2][2] = {{0, 10}, {90, 99}}; /* a tick from 99 on to 0 in a round, 80 from 10 to 90 */
+    for (int run = 0; run < 2; run++) {
+        t = lend(run, 2, ends_of_day);
+        t.gap = 1;
+        clashed("a gap of 1 over the end", &t, none);
+        t.gap = 2;
+        clashed("a gap of 2 over the end", &t, run ? none : each_other);
+        t.gap = 80;
+        clashed("a gap of 80 between", &t, run ? none : each_other);
+        t.gap = 81;
+        clashed("a gap of 81 between", &t, each_other);
+        t.starts_length = t.ends_length = 1, t.gap = 600;
+        clashed("a row alone", &t, none);
+        t.starts_length = t.ends_length = 0;
+        clashed("no rows", &t, none);
+    }
+    uint16_t windows[4][2] = {{3, 3}, {70, 70}, {0, 10}, {50, 60}};
+    t = lend(false, 4, windows);
+    clashed("windows that cover every tick", &t, all_day);
+    t.run = true;
+    clash_refused("start equal to end in a run", &t, 4, 6);
+    end_group("clash words");
+}
+
+/* 64 rows; both sides of R, of the gap and of what a window may be. */
+static void clash_limits(bool run)
+{
+    uint64_t all[ROWS], touching[ROWS];
+    static const uint64_t none[ROWS];
+    for (size_t i = 0; i < ROWS; i++) {
+        all[i] = UINT64_MAX - one_at(i);
+        touching[i] = (i > 0 ? one_at(i - 1) : 0) | (i + 1 < ROWS ? one_at(i + 1) : 0);
+    }
+    struct lent t = many(run, ROWS);
+    clashed("64 rows apart", &t, none);
+    t.gap = 1;
+    clashed("64 rows that touch", &t, touching);
+    t.gap = 600;
+    clashed("64 rows beside each other", &t, all);
+    t.gap = 601;
+    clash_refused("gap 601", &t, ROWS, 14);
+    t.gap = 65535;
+    clash_refused("gap 65,535", &t, ROWS, 14);
+    t.gap = 0, t.ticks = 43200;
+    clashed("R 43,200", &t, none);
+    static const uint16_t ticks[4] = {0, 1, 43201, 65535};
+    for (size_t i = 0; i < 4; i++) {
+        t.ticks = ticks[i];
+        clash_refused("R outside its limits", &t, ROWS, 4);
+    }
+    t.ticks = 64; /* the last row ends at R */
+    if (run)
+        clashed("an end at R", &t, none);
+    else
+        clash_refused("an end at R", &t, ROWS, 6);
+    t.ticks = 63;
+    clash_refused("a row beyond R", &t, ROWS, 6);
+    t.starts_length = t.ends_length = 62;
+    clashed("62 rows of them", &t, none);
+    static const uint64_t two[2] = {0x2, 0x1};
+    uint16_t apart[2][2] = {{0, 1}, {601, 42600}}; /* 600 ticks between, and 600 from the second on to the end */
+    t = lend(run, 2, apart);
+    t.ticks = 43200, t.gap = 600;
+    clashed("600 ticks between", &t, none);
+    t.starts[1] = 600;
+    clashed("599 ticks between", &t, two);
+    t.starts[1] = 601, t.ends[1] = 42601;
+    clashed("599 ticks on to the first", &t, run ? none : two);
+}
+
+/* Wrong in every way: mended one by one, the refusals come in the order that the header gives. Marks and hours stay wrong, as none are lent. */
+static void clash_refusals(const char *what, bool run)
+{
+    uint64_t words[ROWS];
+    struct lent t = all_wrong(run);
+    size_t *lengths[2] = {&t.starts_length, &t.ends_length};
+    for (size_t i = 0; i < 2; i++) {
+        *lengths[i] = ROWS;
+        clash_refused(what, &t, ROWS + 1, 1);
+        clash_refused(what, &t, ROWS, 1);
+        set_rows(&t, ROWS + 1);
+    }
+    clash_refused(what, &t, ROWS, 1);
+    clash_refused(what, &t, ROWS + 1, 2);
+    set_rows(&t, ROWS);
+    clash_refused(what, &t, ROWS + 1, 1);
+    clash_refused(what, &t, ROWS, 4);
+    t.ticks = 100;
+    clash_refused(what, &t, ROWS, 14);
+    t.gap = 0;
+    clash_refused(what, &t, ROWS, 6);
+    t.ends[0] = 1, t.ends[63] = 101;
+    clash_refused(what, &t, ROWS, 6);
+    t.ends[63] = 64;
+    memset(words, 0, sizeof words);
+    for (size_t i = 1; i < 4; i++)
+        words[i] = 0xE - one_at(i) + one_at(45);
+    words[45] = 0xE;
+    clashed(what, &t, words);
+    for (size_t rows = 0; rows < 3; rows++) { /* a place less and a place more */
+        set_rows(&t, rows + 1);
+        clash_refused(what, &t, rows, 1);
+        clash_refused(what, &t, rows + 2, 1);
+    }
+}
+
+static void all_clash_refusals(void)
+{
+    for (int run = 0; run < 2; run++) {
+        clash_limits(run);
+        clash_refusals(run ? "hub_clash_words_run" : "hub_clash_words_round", run);
+    }
+    end_group("refusals of clash words");
+}
+
 int main(void)
 {
     constants();
@@ -1830,5 +2192,11 @@ int main(void)
     candidate_examples();
     candidate_marks();
     all_candidate_refusals();
+    words_of_labels();
+    words_of_labels_refused();
+    labels_of_words_refused();
+    must_words();
+    clash_examples();
+    all_clash_refusals();
     return all_failures != 0;
 }

@@ -1,6 +1,7 @@
 /* Measures how many bytes of stack each function of the library uses, the most over three tables of 64 rows, with a gap of 60: one of which many rows are heard, one of
  * which few are, and one that is refused. The last row of a table is added to the held table of the others, and row 0 is withdrawn from the held table of all; all rows are
- * candidates for the table without the last. Each call is made on a stack of its own that was filled with a pattern, and what a call that does nothing uses is taken off.
+ * candidates for the table without the last; labels and marks of all rows become words, the words labels again, and each row has its clash word. Each call is made on a stack of
+ * its own that was filled with a pattern, and what a call that does nothing uses is taken off.
  *
  *   gcc -std=c99 -O2 -Wall -Wextra -Wpedantic -Werror -Iinclude tests/stack.c target/staticlib/libhub_c.a -o target/stack && target/stack
  */
@@ -18,6 +19,8 @@ static ucontext_t here, there;
 
 static uint16_t starts[64], ends[64];
 static uint8_t marks[64], labels[64], space[16384], tape[400], out[400], plan[400];
+static uint64_t words[64];
+static struct hub_label_words label_words;
 static size_t rows, tape_length, plan_length;
 
 static void nothing(void) {}
@@ -56,10 +59,17 @@ static void try_run(void)
                            rows, space, sizeof space);
 }
 
-/* Plans the table and writes the plan tape; none where the table is refused. */
+static void words_of_labels(void) { hub_words_of_labels(labels, rows); }
+static void labels_of_words(void) { hub_labels_of_words(label_words.heard, label_words.receiver, labels, rows); }
+static void must_of_marks(void) { hub_must_of_marks(marks, rows); }
+static void clash_words_round(void) { hub_clash_words_round(43200, 60, starts, rows, ends, rows, words, rows); }
+static void clash_words_run(void) { hub_clash_words_run(43200, 60, starts, rows, ends, rows, words, rows); }
+
+/* Plans the table, makes words of the labels and writes the plan tape; where the table is refused the labels stay those of the table before, and there is no tape. */
 static void make_plan_tape(void)
 {
     plan_run();
+    label_words = hub_words_of_labels(labels, rows);
     plan_length = hub_write_plan_run(43200, 60, 0, 43200, 0, 43200, starts, rows, ends, rows, marks, rows, labels, rows, plan, sizeof plan).count;
 }
 
@@ -103,7 +113,9 @@ int main(void)
         {"hub_write_plan_run", write_run}, {"hub_read_fleet", read_fleet}, {"hub_reply", reply},
         {"hub_player_start", player_start}, {"hub_player_step", player_step}, {"hub_held_begin", held_begin},
         {"hub_held_add", held_add}, {"hub_held_withdraw", held_withdraw},
-        {"hub_try_candidates_round", try_round}, {"hub_try_candidates_run", try_run}};
+        {"hub_try_candidates_round", try_round}, {"hub_try_candidates_run", try_run},
+        {"hub_words_of_labels", words_of_labels}, {"hub_labels_of_words", labels_of_words}, {"hub_must_of_marks", must_of_marks},
+        {"hub_clash_words_round", clash_words_round}, {"hub_clash_words_run", clash_words_run}};
     static const unsigned tables[3][3] = {{600, 900, 0}, {1, 40000, 1}, {600, 900, 6}};
     size_t base = depth_of(nothing);
     for (size_t c = 0; c < sizeof calls / sizeof *calls; c++) {
@@ -111,7 +123,7 @@ int main(void)
         for (size_t t = 0; t < 3; t++) {
             set_table(tables[t][0], tables[t][1], tables[t][2]);
             if (c >= 2)
-                make_plan_tape(); /* labels for the writer, a tape for the player */
+                make_plan_tape(); /* labels for the writer and for words, a tape for the player */
             size_t depth = depth_of(calls[c].call) - base;
             most = depth > most ? depth : most;
         }

@@ -10,6 +10,7 @@ pub mod held;
 pub mod player_port;
 pub mod port;
 pub mod tables;
+pub mod words;
 
 /// The most rows of a table, and the places of each list of a held table.
 pub const MAX_ROWS: usize = 64;
@@ -203,6 +204,20 @@ mod c {
         pub rows: usize,
     }
 
+    #[repr(C)]
+    pub struct HubLabelWords {
+        pub refusal: u8,
+        pub count: usize,
+        pub heard: u64,
+        pub receiver: u64,
+    }
+
+    #[repr(C)]
+    pub struct HubMustWord {
+        pub refusal: u8,
+        pub word: u64,
+    }
+
     extern "C" {
         pub fn hub_plan_round(
             ticks: u16,
@@ -360,6 +375,29 @@ mod c {
             space: *mut u8,
             space_length: usize,
         ) -> HubTried;
+        pub fn hub_words_of_labels(labels: *const u8, labels_length: usize) -> HubLabelWords;
+        pub fn hub_labels_of_words(heard: u64, receiver: u64, labels: *mut u8, labels_length: usize) -> HubAnswer;
+        pub fn hub_must_of_marks(marks: *const u8, marks_length: usize) -> HubMustWord;
+        pub fn hub_clash_words_round(
+            ticks: u16,
+            gap: u16,
+            starts: *const u16,
+            starts_length: usize,
+            ends: *const u16,
+            ends_length: usize,
+            words: *mut u64,
+            words_length: usize,
+        ) -> u8;
+        pub fn hub_clash_words_run(
+            ticks: u16,
+            gap: u16,
+            starts: *const u16,
+            starts_length: usize,
+            ends: *const u16,
+            ends_length: usize,
+            words: *mut u64,
+            words_length: usize,
+        ) -> u8;
     }
 }
 

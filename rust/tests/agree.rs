@@ -4,6 +4,7 @@ mod candidates;
 mod held;
 mod papers;
 mod player;
+mod words;
 
 use hubplan::distance::Remainder;
 use hubplan::tables::{benchmark_tables, long_arcs, Planner, Sequence, Table};

@@ -1,10 +1,8 @@
 -- What the parts of each call give is what its definition yields: a refusal gives words of 0 or writes nothing.
 use Prim.Native.Nat.{ℕ, _^_, _≤_, _<_}
 use mathlib.Core.Path.{_≡_, refl, sym, ap, ap₂, _∙_}
-use mathlib.Core.Bool.{Bool, true, false, cond}
+use mathlib.Core.Bool.{true, false, cond}
 use mathlib.Core.List.{List}
-use native.Mathlib.Omega.{arith}
-use lib.Dec.{leb}
 use lib.ListN.{length}
 use lib.Count.{ones}
 use borrow.Author.Tests.{eq-eqb, ne-eqb, le-leb, lt-leb}

@@ -6,22 +6,21 @@ use mathlib.Core.Bool.{Bool, true, false, cond, not, false≢true}
 use mathlib.Core.List.{List, [], _∷_}
 use native.Mathlib.Omega.{arith}
 use native.Mathlib.Nat.{lt-of-le-of-lt}
-use lib.Dec.{leb, eqb, ltb}
+use lib.Dec.{eqb, ltb}
 use lib.ListN.{length}
 use lib.Seq.{ext-getD}
 use lib.Bits.{bitAnd, and-lt, and-le-l}
 use lib.Count.{ones}
-use borrow.Author.Tests.{eq-eqb, eqb-true, lt-ltb, ltb-true}
+use borrow.Author.Tests.{eq-eqb, ne-eqb, lt-ltb, ltb-true}
 use Rattle.basics.specs.Lists.{at, listOf}
-use Rattle.basics.specs.Tests.{every}
 use Rattle.basics.proofs.Tests.{leb-iff, eqb-iff, not-iff, and-iff, imp-iff, every-iff, bool-ext, le-or-lt}
 use Rattle.basics.proofs.Lists.{length-list, at-list}
 use Rattle.labels.specs.Labels.{hears, heard}
 use Rattle.bit_words.specs.declared.Word.{Word}
-use Rattle.bit_words.specs.declared.Word.the-variants.{Heard, Receiver, Must}
-use Rattle.bit_words.specs.Bits.{wordBits, bit, isSet, wordOf}
+use Rattle.bit_words.specs.declared.Word.the-variants.{Heard, Receiver}
+use Rattle.bit_words.specs.Bits.{bit, isSet, wordOf}
 use Rattle.bit_words.specs.Words.{tells, wordFor, areLabels, labelBy, areWords, labelsFrom}
-use Rattle.bit_words.proofs.BitLaws.{bit-below, bit-none, word-below, word-above, word-bit, word-same, word-whole, word-ext, below-of-bits, and-bit, ones-front}
+use Rattle.bit_words.proofs.BitLaws.{bit-below, bit-none, word-above, word-bit, word-same, word-whole, word-ext, below-of-bits, and-bit, ones-front}
 
 -- ---- labels
 
@@ -43,7 +42,7 @@ pub record Carried (rows heard receiver : ℕ) : Type 0 where
   pub receiver-none : (i : ℕ) → rows ≤ i → bit receiver i ≡ 0
 
 -- a bit that is not 1 is 0
-zero-bit : (x i : ℕ) → (bit x i ≡ 1 → ⊥) → bit x i ≡ 0
+pub zero-bit : (x i : ℕ) → (bit x i ≡ 1 → ⊥) → bit x i ≡ 0
 zero-bit x i n = go (bit x i) (bit-below x i) n
   where
     go : (b : ℕ) → b < 2 → (b ≡ 1 → ⊥) → b ≡ 0
@@ -114,7 +113,7 @@ module _ (rows : ℕ) {heard receiver : ℕ} (h : heard < 2 ^ 64) (r : receiver 
           let l : receiver < 2 ^ rows = lt-of-le-of-lt (subst (λ (x : ℕ). x ≤ heard) (f .0) (and-le-l heard receiver)) (f .1) in
           record {
             receiver-heard =
-              λ i e. omega (arith, sym (and-bit heard receiver i) ∙ ap (λ (x : ℕ). bit x i) (f .0), bit-below heard i);
+                λ i e. omega (arith, sym (and-bit heard receiver i) ∙ ap (λ (x : ℕ). bit x i) (f .0), bit-below heard i);
             heard-none = λ i k. bit-none i (f .1) k;
             receiver-none = λ i k. bit-none i l k;
           }
@@ -158,7 +157,8 @@ labels-back labels f =
 
 -- the receiver bit is 1 only for a row that is heard
 receiver-heard-2 : (x : ℕ) → tells Receiver x ≡ true → tells Heard x ≡ true
-receiver-heard-2 x e = rw (eqb-true x 2 e) refl
+receiver-heard-2 zero e = absurd (false≢true e)
+receiver-heard-2 (suc x) e = ap not (ne-eqb (suc x) 0 (λ z. omega arith))
 
 -- words that are made of labels can be carried
 pub words-carried : (labels : List ℕ) → Carried (length labels) (wordFor Heard labels) (wordFor Receiver labels)

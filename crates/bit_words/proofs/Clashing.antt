@@ -1,20 +1,18 @@
 -- Clash words: what the functions make of windows alone, and what the bits of a clash word say.
 use Prim.Native.Nat.{ℕ, zero, suc, _≤_, _<_}
-use mathlib.Core.Path.{_≡_, sym, refl, ap, ap₂, _∙_}
-use mathlib.Core.Logic.{_≢_, _↔_, Iff·trans}
-use mathlib.Core.Bool.{true, not, _&&_}
+use mathlib.Core.Path.{_≡_, sym, refl, ap}
+use mathlib.Core.Logic.{_≢_, _↔_}
+use mathlib.Core.Bool.{true}
 use mathlib.Core.List.{List}
-use native.Mathlib.Omega.{arith}
-use lib.Dec.{eqb}
 use lib.ListN.{length, replicate, length-replicate}
-use Rattle.basics.specs.Lists.{at, listOf}
+use Rattle.basics.specs.Lists.{at}
 use Rattle.basics.proofs.Tests.{eqb-iff, not-iff, and-iff}
 use Rattle.basics.proofs.Lists.{length-list, at-list}
 use Rattle.window.specs.Rows.{row}
 use Rattle.refusals.specs.Refusals.{_then_}
 use Rattle.refusals.proofs.Refusals.{Passed, then-passed}
 use Rattle.table.specs.declared.Setting.{Setting}
-use Rattle.table.specs.Tables.{Table, rows, rowAt, Clash, clashes, ValidRow}
+use Rattle.table.specs.Tables.{Table, rows, rowAt, Clash, ValidRow}
 use Rattle.table.specs.Checks.{lengthsRefusal, listsRefusal, ticksRefusal, gapRefusal, rowsLooked}
 use Rattle.table.proofs.Checked.{lists-passed, rows-passed, row-passed}
 use Rattle.table.proofs.Plans.{clashes-iff}
@@ -60,7 +58,7 @@ module _ (t : Table) (words : List ℕ) (p : Passed (clashRefusal t (length word
 -- ---- what the bits say
 
 module _ (t : Table) (valid : (i : ℕ) → i < rows t → ValidRow (t .setting) (rowAt t i)) where
-  clash-bit : (i j : ℕ) → i < rows t → (bit (clashWord t i) j ≡ 1) ↔ ((j < rows t) × (i ≢ j) × Clash (t .setting) (rowAt t i) (rowAt t j))
+  pub clash-bit : (i j : ℕ) → i < rows t → (bit (clashWord t i) j ≡ 1) ↔ ((j < rows t) × (i ≢ j) × Clash (t .setting) (rowAt t i) (rowAt t j))
   unfolding clashWord isClash
   clash-bit i j h = (
     λ e. let f = word-iff (isClash t i) (rows t) j .0 e in let s = says j (f .0) .0 (f .1) in (f .0, s .0, s .1),

@@ -69,7 +69,11 @@ fn is_other_clash(setting: Setting, starts: &[u16], ends: &[u16], i: usize, j: u
     if i == j {
         return false;
     }
-    table::plan::is_clash(setting, window_at(starts, ends, i), window_at(starts, ends, j))
+    table::plan::is_clash(
+        setting,
+        window_at(starts, ends, i),
+        window_at(starts, ends, j),
+    )
 }
 
 // The clash word of row i.

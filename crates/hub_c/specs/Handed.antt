@@ -1,4 +1,4 @@
--- Believed: How an answer, a report, the receivers' open hours, a player and what it tells, a held table, and what candidates are answered are handed over to C: by numbers alone.
+-- Believed: How an answer, a report, the receivers' open hours, a player and what it tells, a held table, what candidates are answered, and words of bits are handed over to C: by numbers alone.
 use mathlib.Core.Bool.{Bool, true, false}
 use Prim.Native.Nat.{ℕ}
 use mathlib.Core.List.{List}
@@ -21,6 +21,10 @@ use Rattle.held_table.specs.declared.Numbers.{Numbers}
 use Rattle.held_table.specs.declared.Begun.{Begun}
 use Rattle.held_table.specs.Held.{HeldCall}
 use Rattle.candidates.specs.Tried.{CandidatesCalled}
+use Rattle.bit_words.specs.declared.LabelWords.{LabelWords}
+use Rattle.bit_words.specs.declared.MustWord.{MustWord}
+use Rattle.bit_words.specs.Words.{LabelsCalled}
+use Rattle.bit_words.specs.Clashes.{ClashCalled}
 use Rattle.hub_c.specs.declared.HubAnswer.{HubAnswer}
 use Rattle.hub_c.specs.declared.HubPlayer.{HubPlayer}
 use Rattle.hub_c.specs.declared.HubStarted.{HubStarted}
@@ -31,6 +35,8 @@ use Rattle.hub_c.specs.declared.HubHeldNumbers.{HubHeldNumbers}
 use Rattle.hub_c.specs.declared.HubHeldBegun.{HubHeldBegun}
 use Rattle.hub_c.specs.declared.HubHeldChange.{HubHeldChange}
 use Rattle.hub_c.specs.declared.HubTried.{HubTried}
+use Rattle.hub_c.specs.declared.words.HubLabelWords.{HubLabelWords}
+use Rattle.hub_c.specs.declared.words.HubMustWord.{HubMustWord}
 
 -- the refusal by its number in the papers, 0 for accepted, and the count
 abbrev pub handed : Answer → HubAnswer
@@ -161,3 +167,34 @@ triedGave reports numbers counts space = record { reports = reports; numbers = n
 
 abbrev pub handedTried : CandidatesCalled → HubCandidates
 handedTried c = triedGave (handedLooked (c .reports)) (c .numbers) (c .counts) (c .space)
+
+-- ---- words of bits
+
+-- the refusal by its number, the number heard, and the heard and the receiver word
+abbrev pub handedWords : LabelWords → HubLabelWords
+handedWords w = record { refusal = numberOf (w .refusal); count = w .count; heard = w .heard; receiver = w .receiver }
+
+abbrev pub handedMust : MustWord → HubMustWord
+handedMust m = record { refusal = numberOf (m .refusal); word = m .word }
+
+-- what a call that makes labels of words gives to C
+pub record HubLabels : Type 0 where
+  pub answer : HubAnswer
+  pub labels : List ℕ
+
+abbrev pub labelsGave : HubAnswer → List ℕ → HubLabels
+labelsGave answer labels = record { answer = answer; labels = labels }
+
+abbrev pub handedLabels : LabelsCalled → HubLabels
+handedLabels l = labelsGave (handed (l .answer)) (l .labels)
+
+-- and a call that makes clash words
+pub record HubClashes : Type 0 where
+  pub refusal : ℕ
+  pub words : List ℕ
+
+abbrev pub clashGave : ℕ → List ℕ → HubClashes
+clashGave refusal words = record { refusal = refusal; words = words }
+
+abbrev pub handedClash : ClashCalled → HubClashes
+handedClash c = clashGave (numberOf (c .refusal)) (c .words)

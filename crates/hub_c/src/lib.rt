@@ -25,6 +25,8 @@ use table::Setting;
 use window::Kind;
 use window::Row;
 
+pub mod words;
+
 // What a call reports: the refusal's number in the papers, 0 for accepted, and the count, 0 on a refusal.
 #[repr(C)]
 pub struct HubAnswer {

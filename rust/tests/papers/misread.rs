@@ -1,8 +1,9 @@
-//! Rules that misread request 4, and meanings that misread requests 5 and 7: the tests count how many of their tables, changes and calls tell each of these from the right ones.
+//! Rules that misread request 4, and meanings that misread requests 5, 7 and 8: the tests count how many of their tables, changes and calls tell each of these from the right ones.
 
 use super::candidates::{self, each, fault, must, planning, with, Answer, Lent};
 use super::held::{Change, Held, Meaning, RIGHT};
-use super::{allowed, is_near, is_plan, overlaps, too_close, Rules, RULES};
+use super::words::{self, not_own};
+use super::{allowed, in_hours, is_near, is_plan, overlaps, too_close, Rules, RULES};
 use hubplan::held::Row;
 use hubplan::tables::Table;
 use hubplan::Kind;
@@ -243,9 +244,8 @@ pub const CANDIDATES: [(&str, candidates::Meaning); 16] = [
     ),
 ];
 
-/// The refusals that are looked at before the rows, with one of them at another place.
-fn moved(number: u8, to: usize, lent: &Lent) -> Vec<(u8, bool)> {
-    let mut numbers = (TRIED.sooner)(lent);
+/// Refusals in the order in which they are looked at, with one of them at another place.
+fn moved(number: u8, to: usize, mut numbers: Vec<(u8, bool)>) -> Vec<(u8, bool)> {
     let from = numbers.iter().position(|&(other, _)| other == number).unwrap();
     let moved = numbers.remove(from);
     numbers.insert(to, moved);
@@ -253,11 +253,11 @@ fn moved(number: u8, to: usize, lent: &Lent) -> Vec<(u8, bool)> {
 }
 
 fn lists_first(lent: &Lent) -> Vec<(u8, bool)> {
-    moved(16, 2, lent)
+    moved(16, 2, (TRIED.sooner)(lent))
 }
 
 fn ticks_first(lent: &Lent) -> Vec<(u8, bool)> {
-    moved(16, 4, lent)
+    moved(16, 4, (TRIED.sooner)(lent))
 }
 
 fn no_place(lent: &Lent) -> Vec<(u8, bool)> {
@@ -322,4 +322,288 @@ fn mark_of_candidate_first(lent: &Lent) -> Vec<Answer> {
     let answers = (TRIED.answers)(lent);
     let mark_first = |(j, answer): (usize, Answer)| if answer.0 == 6 && lent.marks[j] > 5 { (7, 0) } else { answer };
     answers.into_iter().enumerate().map(mark_first).collect()
+}
+
+const CARRIED: words::Meaning = words::RIGHT;
+
+/// A name, and how one bit per row is understood.
+pub const WORDS: [(&str, words::Meaning); 31] = [
+    (
+        "row 0 has the uppermost bit",
+        words::Meaning {
+            place: |i, _| 63 - i.min(63),
+            ..CARRIED
+        },
+    ),
+    (
+        "the last row has bit 0",
+        words::Meaning {
+            place: |i, rows| rows.min(64) - 1 - i.min(63),
+            ..CARRIED
+        },
+    ),
+    (
+        "the receiver bit is 1 for receiver 1",
+        words::Meaning {
+            bits: first_receiver,
+            label: of_first_receiver,
+            ..CARRIED
+        },
+    ),
+    (
+        "the receiver bit is 1 for a row not heard",
+        words::Meaning {
+            bits: not_first,
+            label: of_not_first,
+            ..CARRIED
+        },
+    ),
+    (
+        "a receiver bit of a row not heard is passed over",
+        words::Meaning {
+            label: passed_over,
+            ..CARRIED
+        },
+    ),
+    (
+        "one bit says receiver 1, the other receiver 2",
+        words::Meaning {
+            bits: each_receiver,
+            label: of_each_receiver,
+            ..CARRIED
+        },
+    ),
+    (
+        "a label above 2 is heard",
+        words::Meaning {
+            bits: all_carried,
+            ..CARRIED
+        },
+    ),
+    (
+        "a one from the row count up is passed over",
+        words::Meaning { ones_above: true, ..CARRIED },
+    ),
+    (
+        "the number heard has the ones of both words",
+        words::Meaning {
+            count: |[heard, receiver], _| words::ones(heard) + words::ones(receiver),
+            ..CARRIED
+        },
+    ),
+    (
+        "all rows are counted",
+        words::Meaning {
+            count: |_, rows| rows,
+            ..CARRIED
+        },
+    ),
+    (
+        "9 before 2",
+        words::Meaning {
+            carried_first: true,
+            ..CARRIED
+        },
+    ),
+    (
+        "must is the lowest bit of the mark",
+        words::Meaning {
+            must: |mark| Ok(mark % 2 == 1),
+            ..CARRIED
+        },
+    ),
+    (
+        "must is mark 1 alone",
+        words::Meaning {
+            must: |mark| Ok(mark == 1),
+            ..CARRIED
+        },
+    ),
+    (
+        "must is any mark but 0",
+        words::Meaning {
+            must: |mark| Ok(mark != 0),
+            ..CARRIED
+        },
+    ),
+    (
+        "a mark above 5 is refused",
+        words::Meaning {
+            must: |mark| if mark > 5 { Err(7) } else { (CARRIED.must)(mark) },
+            ..CARRIED
+        },
+    ),
+    (
+        "a row has its own bit",
+        words::Meaning {
+            others: |table| too_close(&RULES, table),
+            ..CARRIED
+        },
+    ),
+    ("later rows alone", words::Meaning { others: later, ..CARRIED }),
+    (
+        "no gap",
+        words::Meaning {
+            others: |table| (CARRIED.others)(&table.clone().with_gap(0)),
+            ..CARRIED
+        },
+    ),
+    (
+        "g ticks are too few",
+        words::Meaning {
+            others: |table| (CARRIED.others)(&table.clone().with_gap(table.gap + 1)),
+            ..CARRIED
+        },
+    ),
+    (
+        "one side counts",
+        words::Meaning {
+            others: |table| not_own(one_side(&RULES, table)),
+            ..CARRIED
+        },
+    ),
+    (
+        "a run comes back",
+        words::Meaning {
+            others: come_back,
+            ..CARRIED
+        },
+    ),
+    ("equal windows are one", words::Meaning { others: unequal, ..CARRIED }),
+    ("rows for different receivers do not clash", words::Meaning { others: by_mark, ..CARRIED }),
+    ("rows that may be heard do not clash", words::Meaning { others: by_must, ..CARRIED }),
+    ("rows outside the hours do not clash", words::Meaning { others: by_hours, ..CARRIED }),
+    (
+        "2 before 1",
+        words::Meaning {
+            refusals: |table, places| moved(2, 0, (CARRIED.refusals)(table, places)),
+            ..CARRIED
+        },
+    ),
+    (
+        "4 before 2",
+        words::Meaning {
+            refusals: |table, places| moved(4, 1, (CARRIED.refusals)(table, places)),
+            ..CARRIED
+        },
+    ),
+    (
+        "14 before 4",
+        words::Meaning {
+            refusals: |table, places| moved(14, 2, (CARRIED.refusals)(table, places)),
+            ..CARRIED
+        },
+    ),
+    (
+        "6 before 14",
+        words::Meaning {
+            refusals: |table, places| moved(6, 3, (CARRIED.refusals)(table, places)),
+            ..CARRIED
+        },
+    ),
+    (
+        "5 for hours",
+        words::Meaning {
+            refusals: hours_refused,
+            ..CARRIED
+        },
+    ),
+    (
+        "7 for marks",
+        words::Meaning {
+            refusals: marks_refused,
+            ..CARRIED
+        },
+    ),
+];
+
+fn first_receiver(label: u8) -> Option<[bool; 2]> {
+    (CARRIED.bits)(label).map(|[heard, second]| [heard, heard && !second])
+}
+
+fn of_first_receiver([heard, first]: [bool; 2]) -> Option<u8> {
+    match [heard, first] {
+        [true, first] => Some(if first { 1 } else { 2 }),
+        bits => (CARRIED.label)(bits),
+    }
+}
+
+fn not_first(label: u8) -> Option<[bool; 2]> {
+    (CARRIED.bits)(label).map(|[heard, second]| [heard, second || !heard])
+}
+
+fn of_not_first(bits: [bool; 2]) -> Option<u8> {
+    (0..=2).find(|&label| not_first(label) == Some(bits))
+}
+
+fn passed_over([heard, second]: [bool; 2]) -> Option<u8> {
+    (CARRIED.label)([heard, heard && second])
+}
+
+fn each_receiver(label: u8) -> Option<[bool; 2]> {
+    (CARRIED.bits)(label).map(|_| [label == 1, label == 2])
+}
+
+fn of_each_receiver(bits: [bool; 2]) -> Option<u8> {
+    (0..=2).find(|&label| each_receiver(label) == Some(bits))
+}
+
+fn all_carried(label: u8) -> Option<[bool; 2]> {
+    Some([label > 0, label == 2])
+}
+
+/// The clashes of a table without those that are left out.
+fn without(table: &Table, left_out: impl Fn(usize, usize) -> bool) -> Vec<Vec<bool>> {
+    let mut others = (CARRIED.others)(table);
+    for i in 0..table.rows() {
+        for j in 0..table.rows() {
+            others[i][j] &= !left_out(i, j);
+        }
+    }
+    others
+}
+
+fn later(table: &Table) -> Vec<Vec<bool>> {
+    without(table, |i, j| j < i)
+}
+
+fn come_back(table: &Table) -> Vec<Vec<bool>> {
+    not_own(match table.kind {
+        Kind::Round => too_close(&RULES, table),
+        Kind::Run(_) => wraps(&RULES, table),
+    })
+}
+
+fn unequal(table: &Table) -> Vec<Vec<bool>> {
+    without(table, |i, j| (table.starts[i], table.ends[i]) == (table.starts[j], table.ends[j]))
+}
+
+/// No receiver is left by the marks of both rows.
+fn by_mark(table: &Table) -> Vec<Vec<bool>> {
+    without(table, |i, j| matches!((table.marks[i] / 2, table.marks[j] / 2), (1, 2) | (2, 1)))
+}
+
+/// Neither row must be heard.
+fn by_must(table: &Table) -> Vec<Vec<bool>> {
+    without(table, |i, j| table.marks[i] % 2 == 0 && table.marks[j] % 2 == 0)
+}
+
+/// No receiver's hours have both rows.
+fn by_hours(table: &Table) -> Vec<Vec<bool>> {
+    without(table, |i, j| {
+        ![1, 2].iter().any(|&label| in_hours(table, i, label) && in_hours(table, j, label))
+    })
+}
+
+fn hours_refused(table: &Table, places: usize) -> Vec<(u8, bool)> {
+    let wrong = matches!(table.kind, Kind::Run(hours) if hours.iter().any(|&[p, q]| p > q || q > table.ticks));
+    let mut numbers = (CARRIED.refusals)(table, places);
+    numbers.insert(3, (5, wrong));
+    numbers
+}
+
+fn marks_refused(table: &Table, places: usize) -> Vec<(u8, bool)> {
+    let mut numbers = (CARRIED.refusals)(table, places);
+    numbers.push((7, table.marks.iter().any(|&mark| mark > 5)));
+    numbers
 }

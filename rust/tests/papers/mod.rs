@@ -1,12 +1,13 @@
-//! Papers 00 and 01 once more, with requests 2 to 4 of paper 02, request 1 in player.rs, request 5 in held.rs and request 7 in candidates.rs, written from their text alone and
-//! sharing no code with the planner: the comparison for the tests. Windows are sets of ticks and gaps are steps, found by walking; up to 8 rows every list of labels is tried; a
-//! larger table is planned by a forward search over what each receiver is busy with. The rules that requests 2 to 4 changed stand as they were in former.rs.
+//! Papers 00 and 01 once more, with requests 2 to 4 of paper 02, request 1 in player.rs, request 5 in held.rs, request 7 in candidates.rs and request 8 in words.rs, written from
+//! their text alone and sharing no code with the planner: the comparison for the tests. Windows are sets of ticks and gaps are steps, found by walking; up to 8 rows every list of
+//! labels is tried; a larger table is planned by a forward search over what each receiver is busy with. The rules that requests 2 to 4 changed stand as they were in former.rs.
 
 pub mod candidates;
 pub mod former;
 pub mod held;
 pub mod misread;
 pub mod player;
+pub mod words;
 
 use hubplan::tables::Table;
 use hubplan::Kind;

@@ -1,10 +1,7 @@
 -- `bit_words::clashes::clash_words` meets its contract: what it gives is what `clashCall` yields, and the bits say what clashes.
 use mathlib.Core.Path.{_≡_, sym, ap, _∙_}
-use mathlib.Core.List.{List}
-use native.Mathlib.Omega.{arith}
-use lib.ListN.{length}
 use Rattle.refusals.specs.Refusals.{numberOf}
-use Rattle.bit_words.specs.Clashes.{windowsOf, ClashWords}
+use Rattle.bit_words.specs.Clashes.{windowsOf}
 use Rattle.bit_words.proofs.Answering.{clash-refused, clash-made}
 use Rattle.bit_words.proofs.Clashing.{lists-lent, valid-rows, clash-words}
 use borrow.Author.Needs.{needs}
