@@ -58,7 +58,7 @@ module _ (t : Table) (words : List ℕ) (p : Passed (clashRefusal t (length word
 -- ---- what the bits say
 
 module _ (t : Table) (valid : (i : ℕ) → i < rows t → ValidRow (t .setting) (rowAt t i)) where
-  pub clash-bit : (i j : ℕ) → i < rows t → (bit (clashWord t i) j ≡ 1) ↔ ((j < rows t) × (i ≢ j) × Clash (t .setting) (rowAt t i) (rowAt t j))
+  clash-bit : (i j : ℕ) → i < rows t → (bit (clashWord t i) j ≡ 1) ↔ ((j < rows t) × (i ≢ j) × Clash (t .setting) (rowAt t i) (rowAt t j))
   unfolding clashWord isClash
   clash-bit i j h = (
     λ e. let f = word-iff (isClash t i) (rows t) j .0 e in let s = says j (f .0) .0 (f .1) in (f .0, s .0, s .1),

@@ -6,7 +6,7 @@ use mathlib.Core.Bool.{Bool, true, false, cond, false≢true}
 use mathlib.Core.List.{List}
 use native.Mathlib.Omega.{arith}
 use native.Mathlib.Nat.{lt-of-lt-of-le}
-use lib.Dec.{leb, eqb}
+use lib.Dec.{leb}
 use lib.ListN.{length}
 use lib.Pow.{pow-mono}
 use lib.Count.{ones}
@@ -17,22 +17,23 @@ use Rattle.basics.proofs.Tests.{eqb-iff, not-iff, bool-ext}
 use Rattle.labels.specs.Labels.{heard}
 use Rattle.marks.specs.Marks.{Must}
 use Rattle.marks.proofs.Allowing.{must-iff}
+use Rattle.refusals.specs.declared.Refusal.{Refusal}
 use Rattle.refusals.specs.declared.Refusal.the-variants.{Accepted, Rows, NotPlan}
-use Rattle.refusals.specs.Refusals.{numberOf, answered, asked}
+use Rattle.refusals.specs.Refusals.{numberOf, answered, asked, passes}
 use Rattle.refusals.proofs.Refusals.{Passed, then-passed, asked-passed}
 use Rattle.table.specs.declared.Setting.{Setting}
-use Rattle.table.specs.Tables.{Table, settingOf, table, rows, rowAt, Allowed, Clash, Plan, Valid, clashes}
+use Rattle.table.specs.Tables.{Table, settingOf, rows, rowAt, Allowed, Clash, Plan, clashes}
+use Rattle.table.specs.Checks.{rowRefusal, rowsLooked}
 use Rattle.table.proofs.Plans.{clash-sym}
 use Rattle.bit_words.specs.declared.Word.{Word}
 use Rattle.bit_words.specs.declared.Word.the-variants.{Heard, Receiver, Must as MustBit}
 use Rattle.bit_words.specs.declared.LabelWords.{LabelWords}
 use Rattle.bit_words.specs.Bits.{bit}
 use Rattle.bit_words.specs.Words.{tells, wordFor, areLabels, labelsRefusal, labelWords, wordsCall, areWords, wordsRefusal, labelsFrom, LabelsCalled, labelsGiven, labelsCall}
-use Rattle.bit_words.specs.Clashes.{isClash, clashWord}
+use Rattle.bit_words.specs.Clashes.{windowsOf, ClashWords, isClash, clashWord, clashRefusal, clashCall}
 use Rattle.bit_words.proofs.BitLaws.{word-below, word-above, word-iff, word-bit}
 use Rattle.bit_words.proofs.Carrying.{Labels, labels-iff, Carried, zero-bit, carried-iff, carried-below, labels-back, words-carried, length-from, labels-from, heard-back, receiver-back, notZero, ones-not-zero, ones-heard}
 use Rattle.bit_words.proofs.Answering.{words-9, words-made, labels-9, labels-made}
-use Rattle.bit_words.proofs.Clashing.{clash-bit}
 
 -- ---- "with bit i for row i"
 
@@ -57,27 +58,24 @@ must-bit marks i =
     Iff·trans (word-iff (λ k. tells MustBit (at marks k)) (length marks) i)
     (λ f. (f .0, must-iff (at marks i) .0 (f .1)), λ f. (f .0, must-iff (at marks i) .1 (f .1)))
 
--- "IN EVERY WORD THE BITS FROM THE ROW COUNT UP ARE ZERO": heard, receiver and must
+-- "IN EVERY WORD THE BITS FROM THE ROW COUNT UP ARE ZERO": heard, receiver and must; of clash words below
 pub zeros-above : (word : Word) (entries : List ℕ) (i : ℕ) → length entries ≤ i → bit (wordFor word entries) i ≡ 0
 zeros-above word entries i h = word-above (λ k. tells word (at entries k)) (length entries) i h
 
--- and clash words
-pub clash-zeros-above : (t : Table) (i j : ℕ) → rows t ≤ j → bit (clashWord t i) j ≡ 0
-unfolding clashWord
-clash-zeros-above t i j h = word-above (isClash t i) (rows t) j h
-
 -- ---- which labels are carried
+
+-- a call that passes has passed its check: a refused one ends in what the check says
+check-passed : {A : Type 0} (end : A → Refusal) (r : Refusal) (given refused : A) → end refused ≡ r → Passed (end (cond (passes r) given refused)) → Passed r
+check-passed {A} end r given refused e = go (passes r) refl
+  where
+    go : (x : Bool) → passes r ≡ x → Passed (end (cond x given refused)) → Passed r
+    go true q p = eqb-true (numberOf r) 0 q
+    go false q p = sym (ap numberOf e) ∙ p
 
 module _ (labels : List ℕ) where
   labels-passed : Passed (wordsCall labels .refusal) → Passed (labelsRefusal labels)
   unfolding wordsCall
-  labels-passed = go (eqb (numberOf (labelsRefusal labels)) 0) refl
-    where
-      go : (x : Bool) → eqb (numberOf (labelsRefusal labels)) 0 ≡ x
-          → Passed (cond x (labelWords Accepted (heard labels) (wordFor Heard labels) (wordFor Receiver labels)) (labelWords (labelsRefusal labels) 0 0 0) .refusal)
-          → Passed (labelsRefusal labels)
-      go true e p = eqb-true (numberOf (labelsRefusal labels)) 0 e
-      go false e p = p
+  labels-passed = check-passed (λ (w : LabelWords). w .refusal) (labelsRefusal labels) _ (labelWords (labelsRefusal labels) 0 0 0) refl
 
   -- accepted: up to 64 labels, each 0, 1 or 2
   pub labels-taken : Passed (wordsCall labels .refusal) → (length labels ≤ maxRows) × Labels labels
@@ -113,13 +111,7 @@ module _ {heard′ receiver : ℕ} (h : heard′ < 2 ^ 64) (r : receiver < 2 ^ 6
 
   words-passed : Passed (labelsCall heard′ receiver before .answer .refusal) → Passed (wordsRefusal n heard′ receiver)
   unfolding labelsCall
-  words-passed = go (eqb (numberOf (wordsRefusal n heard′ receiver)) 0) refl
-    where
-      go : (x : Bool) → eqb (numberOf (wordsRefusal n heard′ receiver)) 0 ≡ x
-          → Passed (cond x (labelsGiven (answered Accepted (heard (labelsFrom n heard′ receiver))) (labelsFrom n heard′ receiver)) (labelsGiven (answered (wordsRefusal n heard′ receiver) 0) before) .answer .refusal)
-          → Passed (wordsRefusal n heard′ receiver)
-      go true e p = eqb-true (numberOf (wordsRefusal n heard′ receiver)) 0 e
-      go false e p = p
+  words-passed = check-passed (λ (l : LabelsCalled). l .answer .refusal) (wordsRefusal n heard′ receiver) _ (labelsGiven (answered (wordsRefusal n heard′ receiver) 0) before) refl
 
   -- accepted: up to 64 rows, and words that can be carried by so many
   pub words-taken : Passed (labelsCall heard′ receiver before .answer .refusal) → (n ≤ maxRows) × Carried n heard′ receiver
@@ -180,35 +172,40 @@ words-and-back {heard′} {receiver} h r before p =
 
 -- ---- clash words
 
--- "whatever the marks": tables that differ in their marks have the same words
-pub any-marks : (S : Setting) (starts ends marks marks′ : List ℕ) (i : ℕ) → clashWord (table S starts ends marks) i ≡ clashWord (table S starts ends marks′) i
-unfolding clashWord isClash clashes
-any-marks S starts ends marks marks′ i = refl
+-- "whatever the .. hours": what a call gives does not depend on them, its refusal included
+pub any-hours : (S : Setting) (hours : List (List ℕ)) (starts ends before : List ℕ)
+    → clashCall (windowsOf S starts ends) before ≡ clashCall (windowsOf (settingOf (S .kind) (S .ticks) (S .gap) hours) starts ends) before
+unfolding clashCall clashRefusal clashWord isClash clashes rowsLooked rowRefusal
+any-hours S hours starts ends before = refl
 
--- "and hours"
-pub any-hours : (S : Setting) (hours : List (List ℕ)) (starts ends marks : List ℕ) (i : ℕ)
-    → clashWord (table S starts ends marks) i ≡ clashWord (table (settingOf (S .kind) (S .ticks) (S .gap) hours) starts ends marks) i
-unfolding clashWord isClash clashes
-any-hours S hours starts ends marks i = refl
+-- "WHATEVER THE MARKS AND HOURS": words of windows alone, with any hours, are those of every table that has these windows
+pub any-marks : (t : Table) (hours : List (List ℕ)) {words : List ℕ}
+    → ClashWords (windowsOf (settingOf (t .setting .kind) (t .setting .ticks) (t .setting .gap) hours) (t .starts) (t .ends)) words → ClashWords t words
+any-marks t hours w = record { each = w .each; bits = w .bits }
 
-module _ (t : Table) (valid : Valid t) where
-  -- the row itself is no other row
-  pub own-bit-0 : (i : ℕ) → i < rows t → bit (clashWord t i) i ≡ 0
-  own-bit-0 i h = zero-bit (clashWord t i) i (λ e. clash-bit t (valid .row) i i h .0 e .1 refl)
+-- as a call gives them
+module _ {t : Table} {words : List ℕ} (w : ClashWords t words) where
+  -- "a word of the other rows": the row's own bit is 0
+  pub own-bit-0 : (i : ℕ) → i < rows t → bit (at words i) i ≡ 0
+  own-bit-0 i h = zero-bit (at words i) i (λ e. w .bits i i h .0 e .1 refl)
 
   -- of two rows each has the other, or neither
-  pub clash-both : (i j : ℕ) → i < rows t → bit (clashWord t i) j ≡ 1 → bit (clashWord t j) i ≡ 1
+  pub clash-both : (i j : ℕ) → i < rows t → bit (at words i) j ≡ 1 → bit (at words j) i ≡ 1
   clash-both i j h e =
-      let f = clash-bit t (valid .row) i j h .0 e in
-      clash-bit t (valid .row) j i (f .0) .1 (h, λ z. f .1 (sym z), clash-sym (t .setting) (rowAt t i) (rowAt t j) (f .2))
+      let f = w .bits i j h .0 e in
+      w .bits j i (f .0) .1 (h, λ z. f .1 (sym z), clash-sym (t .setting) (rowAt t i) (rowAt t j) (f .2))
+
+  -- "In every word the bits from the row count up are zero"
+  pub clash-zeros-above : (i j : ℕ) → i < rows t → rows t ≤ j → bit (at words i) j ≡ 0
+  clash-zeros-above i j h l = zero-bit (at words i) j (λ e. omega (arith, w .bits i j h .0 e .0))
 
 -- ---- a plan by words
 
 -- each row's label is allowed, and no heard row's clash word has a bit of a row heard by the same receiver
-pub record PlanByWords (t : Table) (labels : List ℕ) : Type 0 where
+pub record PlanByWords (t : Table) (words labels : List ℕ) : Type 0 where
   pub each : length labels ≡ rows t
   pub allowed : (i : ℕ) → i < rows t → Allowed (t .setting) (rowAt t i) (at labels i)
-  pub apart : (i j : ℕ) → bit (wordFor Heard labels) i ≡ 1 → bit (wordFor Heard labels) j ≡ 1 → bit (wordFor Receiver labels) i ≡ bit (wordFor Receiver labels) j → bit (clashWord t i) j ≡ 0
+  pub apart : (i j : ℕ) → bit (wordFor Heard labels) i ≡ 1 → bit (wordFor Heard labels) j ≡ 1 → bit (wordFor Receiver labels) i ≡ bit (wordFor Receiver labels) j → bit (at words i) j ≡ 0
 
 -- the receiver bit of a label
 abbrev receiverBit : ℕ → ℕ
@@ -227,26 +224,27 @@ same-label (suc (suc zero)) (suc (suc zero)) h k a b e = refl
 same-label (suc (suc zero)) (suc (suc (suc y))) h k a b e = absurd (omega arith)
 same-label (suc (suc (suc x))) y h k a b e = absurd (omega arith)
 
-pub plan-by-words : (t : Table) → Valid t → (labels : List ℕ) → Plan t labels ↔ PlanByWords t labels
-plan-by-words t valid labels = (to, from)
+-- of the words that a call gives for the table's windows (`any-marks`), whatever labels are offered
+pub plan-by-words : {t : Table} {words : List ℕ} → ClashWords t words → (labels : List ℕ) → Plan t labels ↔ PlanByWords t words labels
+plan-by-words {t} {words} w labels = (to, from)
   where
     receiver-of : (i : ℕ) → i < length labels → bit (wordFor Receiver labels) i ≡ receiverBit (at labels i)
     receiver-of i h = word-bit (λ k. tells Receiver (at labels k)) (length labels) i h
 
-    to : Plan t labels → PlanByWords t labels
-    to P = record { each = P .each; allowed = P .allowed; apart = λ i j a b e. zero-bit (clashWord t i) j (clear i j a b e) }
+    to : Plan t labels → PlanByWords t words labels
+    to P = record { each = P .each; allowed = P .allowed; apart = λ i j a b e. zero-bit (at words i) j (clear i j a b e) }
       where
-        clear : (i j : ℕ) → bit (wordFor Heard labels) i ≡ 1 → bit (wordFor Heard labels) j ≡ 1 → bit (wordFor Receiver labels) i ≡ bit (wordFor Receiver labels) j → bit (clashWord t i) j ≡ 1 → ⊥
+        clear : (i j : ℕ) → bit (wordFor Heard labels) i ≡ 1 → bit (wordFor Heard labels) j ≡ 1 → bit (wordFor Receiver labels) i ≡ bit (wordFor Receiver labels) j → bit (at words i) j ≡ 1 → ⊥
         clear i j a b e c =
             let f = heard-bit labels i .0 a in
             let g = heard-bit labels j .0 b in
             let h : i < rows t = omega (arith, P .each) in
             let k : j < rows t = omega (arith, P .each) in
-            let s = clash-bit t (valid .row) i j h .0 c in
+            let s = w .bits i j h .0 c in
             let l = same-label (at labels i) (at labels j) (P .allowed i h .known) (P .allowed j k .known) (f .1) (g .1) (sym (receiver-of i (f .0)) ∙ e ∙ receiver-of j (g .0)) in
             P .apart i j h k (s .1) (f .1) l (s .2)
 
-    from : PlanByWords t labels → Plan t labels
+    from : PlanByWords t words labels → Plan t labels
     from Q = record { each = Q .each; allowed = Q .allowed; apart = λ i j h k d n e c. clear i j h k d n e c }
       where
         clear : (i j : ℕ) → i < rows t → j < rows t → i ≢ j → at labels i ≢ 0 → at labels i ≡ at labels j → Clash (t .setting) (rowAt t i) (rowAt t j) → ⊥
@@ -254,4 +252,4 @@ plan-by-words t valid labels = (to, from)
             let l : i < length labels = omega (arith, Q .each) in
             let m : j < length labels = omega (arith, Q .each) in
             let z = Q .apart i j (heard-bit labels i .1 (l, n)) (heard-bit labels j .1 (m, λ y. n (e ∙ y))) (receiver-of i l ∙ ap receiverBit e ∙ sym (receiver-of j m)) in
-            omega (arith, z, clash-bit t (valid .row) i j h .1 (k, d, c))
+            omega (arith, z, w .bits i j h .1 (k, d, c))

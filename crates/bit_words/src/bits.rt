@@ -7,6 +7,9 @@ ghost use lib.Count.{ones};
 ghost use Rattle.bit_words.specs.Bits.{wordBits, isSet};
 ghost use Rattle.bit_words.specs.Lent.{BitAbove};
 
+// "64-bit words".
+const WORD_BITS: usize = 64;
+
 // A word with bit i set where it is asked for. The word has no bit from i on.
 pub fn with_bit(word: u64, i: usize, set: bool) -> u64
     requires { ⌜ BitAbove word i ⌝ }
@@ -28,7 +31,7 @@ pub fn is_below(word: u64, n: usize) -> bool
     requires { ⌜ n ≤ wordBits ⌝ }
     ensures { λ r. ⌜ r ≡ ltb word (2 ^ n) ⌝ }
 {
-    if n == 64 {
+    if n == WORD_BITS {
         return true;
     }
     word >> n == 0

@@ -8,7 +8,7 @@ use basics::MAX_ROWS;
 use refusals::Answer;
 use refusals::Refusal;
 
-pub mod bits;
+mod bits;
 pub mod clashes;
 
 // The words that are made of a list with a label or a mark for each row.
