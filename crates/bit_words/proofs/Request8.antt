@@ -37,26 +37,24 @@ use Rattle.bit_words.proofs.Answering.{words-9, words-made, labels-9, l
 
 -- ---- "with bit i for row i"
 
+-- a word's bit is 1 exactly for a row of which the word tells so
+told-bit : (word : Word) (entries : List ℕ) (i : ℕ) {P : Type 0} → (tells word (at entries i) ≡ true) ↔ P → (bit (wordFor word entries) i ≡ 1) ↔ ((i < length entries) × P)
+told-bit word entries i says = Iff·trans (word-iff (λ k. tells word (at entries k)) (length entries) i) (λ f. (f .0, says .0 (f .1)), λ f. (f .0, says .1 (f .1)))
+
 module _ (labels : List ℕ) (i : ℕ) where
   pub heard-bit : (bit (wordFor Heard labels) i ≡ 1) ↔ ((i < length labels) × (at labels i ≢ 0))
-  heard-bit =
-      Iff·trans (word-iff (λ k. tells Heard (at labels k)) (length labels) i)
-      (λ f. (f .0, not-iff (eqb-iff (at labels i) 0) .0 (f .1)), λ f. (f .0, not-iff (eqb-iff (at labels i) 0) .1 (f .1)))
+  heard-bit = told-bit Heard labels i (not-iff (eqb-iff (at labels i) 0))
 
   -- "The receiver bit is 1 for receiver 2, and 0 for a row not heard"
   pub receiver-bit : (bit (wordFor Receiver labels) i ≡ 1) ↔ ((i < length labels) × (at labels i ≡ 2))
-  receiver-bit =
-      Iff·trans (word-iff (λ k. tells Receiver (at labels k)) (length labels) i)
-      (λ f. (f .0, eqb-iff (at labels i) 2 .0 (f .1)), λ f. (f .0, eqb-iff (at labels i) 2 .1 (f .1)))
+  receiver-bit = told-bit Receiver labels i (eqb-iff (at labels i) 2)
 
   pub receiver-not-heard-0 : at labels i ≡ 0 → bit (wordFor Receiver labels) i ≡ 0
   receiver-not-heard-0 e = zero-bit (wordFor Receiver labels) i (λ b. omega (arith, receiver-bit .0 b .1))
 
 -- "the must bit is 1 for marks 1, 3 and 5"
 pub must-bit : (marks : List ℕ) (i : ℕ) → (bit (wordFor MustBit marks) i ≡ 1) ↔ ((i < length marks) × Must (at marks i))
-must-bit marks i =
-    Iff·trans (word-iff (λ k. tells MustBit (at marks k)) (length marks) i)
-    (λ f. (f .0, must-iff (at marks i) .0 (f .1)), λ f. (f .0, must-iff (at marks i) .1 (f .1)))
+must-bit marks i = told-bit MustBit marks i (must-iff (at marks i))
 
 -- "IN EVERY WORD THE BITS FROM THE ROW COUNT UP ARE ZERO": heard, receiver and must; of clash words below
 pub zeros-above : (word : Word) (entries : List ℕ) (i : ℕ) → length entries ≤ i → bit (wordFor word entries) i ≡ 0
