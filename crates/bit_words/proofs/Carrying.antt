@@ -1,7 +1,7 @@
 -- Which labels and words can be carried, that words and lists carry the same labels, and that the number heard is the number of ones.
 use Prim.Native.Nat.{ℕ, zero, suc, _+_, _^_, _≤_, _<_, min}
 use mathlib.Core.Path.{_≡_, refl, sym, ap, ap₂, _∙_, subst}
-use mathlib.Core.Logic.{_↔_, _⊎_, inl, inr, Iff·trans}
+use mathlib.Core.Logic.{_↔_, ⊎-elim, Iff·trans}
 use mathlib.Core.Bool.{Bool, true, false, cond, not, false≢true}
 use mathlib.Core.List.{List, [], _∷_}
 use native.Mathlib.Omega.{arith}
@@ -20,7 +20,7 @@ use Rattle.bit_words.specs.declared.Word.{Word}
 use Rattle.bit_words.specs.declared.Word.the-variants.{Heard, Receiver}
 use Rattle.bit_words.specs.Bits.{bit, isSet, wordOf}
 use Rattle.bit_words.specs.Words.{tells, wordFor, areLabels, labelBy, areWords, labelsFrom}
-use Rattle.bit_words.proofs.BitLaws.{bit-below, bit-none, word-above, word-bit, word-same, word-whole, word-ext, below-of-bits, and-bit, ones-front}
+use Rattle.bit_words.proofs.BitLaws.{bit-below, bit-none, word-above, word-iff, word-bit, word-same, word-whole, word-ext, below-of-bits, and-bit, ones-front}
 
 -- ---- labels
 
@@ -67,31 +67,24 @@ module _ (rows : ℕ) {heard receiver : ℕ} (h : heard < 2 ^ 64) (r : receiver 
   pub carried-iff : (areWords rows heard receiver ≡ true) ↔ Carried rows heard receiver
   carried-iff = Iff·trans words-at (from, to)
     where
-      beyond : (x i : ℕ) → x < 2 ^ 64 → 64 ≤ i → bit x i ≡ 0
-      beyond x i l k = bit-none i l k
+      -- a bit that cannot be 1 where there is one is 0
+      none : {x : ℕ} → x < 2 ^ 64 → (i : ℕ) → (i < 64 → bit x i ≡ 1 → ⊥) → bit x i ≡ 0
+      none {x} l i n = ⊎-elim (λ k. bit-none i l k) (λ k. zero-bit x i (n k)) (le-or-lt 64 i)
 
       from : ((i : ℕ) → i < 64 → At i) → Carried rows heard receiver
       from f =
           record {
-            receiver-heard = λ i e. within i e (le-or-lt 64 i);
-            heard-none = λ i l. none-heard i l (le-or-lt 64 i);
-            receiver-none = λ i l. none-receiver i l (le-or-lt 64 i);
+            receiver-heard = λ i e. ⊎-elim (λ k. absurd (omega (arith, bit-none i r k))) (λ k. f i k .0 e) (le-or-lt 64 i);
+            heard-none = λ i l. none h i (λ k. f i k .1 l .0);
+            receiver-none = λ i l. none r i (λ k. f i k .1 l .1);
           }
-        where
-          within : (i : ℕ) → bit receiver i ≡ 1 → (64 ≤ i) ⊎ (i < 64) → bit heard i ≡ 1
-          within i e (inl k) = absurd (omega (arith, beyond receiver i r k))
-          within i e (inr k) = f i k .0 e
-
-          none-heard : (i : ℕ) → rows ≤ i → (64 ≤ i) ⊎ (i < 64) → bit heard i ≡ 0
-          none-heard i l (inl k) = beyond heard i h k
-          none-heard i l (inr k) = zero-bit heard i (f i k .1 l .0)
-
-          none-receiver : (i : ℕ) → rows ≤ i → (64 ≤ i) ⊎ (i < 64) → bit receiver i ≡ 0
-          none-receiver i l (inl k) = beyond receiver i r k
-          none-receiver i l (inr k) = zero-bit receiver i (f i k .1 l .1)
 
       to : Carried rows heard receiver → (i : ℕ) → i < 64 → At i
       to c i k = (c .receiver-heard i, λ l. (λ e. omega (arith, c .heard-none i l), λ e. omega (arith, c .receiver-none i l)))
+
+  -- they are below 2 to the row count
+  pub carried-below : Carried rows heard receiver → (heard < 2 ^ rows) × (receiver < 2 ^ rows)
+  carried-below c = (below-of-bits 64 heard rows h (λ i k l. c .heard-none i l), below-of-bits 64 receiver rows r (λ i k l. c .receiver-none i l))
 
   -- the test of the code: the receiver word is within the heard word, and that one has no bit from the row count up
   pub carried-test : Carried rows heard receiver ↔ ((bitAnd heard receiver ≡ receiver) × (heard < 2 ^ rows))
@@ -105,7 +98,7 @@ module _ (rows : ℕ) {heard receiver : ℕ} (h : heard < 2 ^ 64) (r : receiver 
       from : Carried rows heard receiver → (bitAnd heard receiver ≡ receiver) × (heard < 2 ^ rows)
       from c = (
         word-ext 64 (and-lt 64 heard receiver h r) r (λ i k. and-bit heard receiver i ∙ smaller (bit heard i) (bit receiver i) (bit-below heard i) (bit-below receiver i) (c .receiver-heard i)),
-        below-of-bits 64 heard rows h (λ i k l. c .heard-none i l),
+        carried-below c .0,
       )
 
       to : (bitAnd heard receiver ≡ receiver) × (heard < 2 ^ rows) → Carried rows heard receiver
@@ -163,17 +156,12 @@ receiver-heard-2 (suc x) e = ap not (ne-eqb (suc x) 0 (λ z. omega arith))
 -- words that are made of labels can be carried
 pub words-carried : (labels : List ℕ) → Carried (length labels) (wordFor Heard labels) (wordFor Receiver labels)
 words-carried labels =
+    let n = length labels in
     record {
-      receiver-heard = λ i e. go i e (le-or-lt (length labels) i);
-      heard-none = λ i l. word-above (λ i. tells Heard (at labels i)) (length labels) i l;
-      receiver-none = λ i l. word-above (λ i. tells Receiver (at labels i)) (length labels) i l;
+      receiver-heard = λ i e. let f = word-iff (λ k. tells Receiver (at labels k)) n i .0 e in word-iff (λ k. tells Heard (at labels k)) n i .1 (f .0, receiver-heard-2 (at labels i) (f .1));
+      heard-none = λ i l. word-above (λ k. tells Heard (at labels k)) n i l;
+      receiver-none = λ i l. word-above (λ k. tells Receiver (at labels k)) n i l;
     }
-  where
-    go : (i : ℕ) → bit (wordFor Receiver labels) i ≡ 1 → (length labels ≤ i) ⊎ (i < length labels) → bit (wordFor Heard labels) i ≡ 1
-    go i e (inl l) = absurd (omega (arith, word-above (λ i. tells Receiver (at labels i)) (length labels) i l))
-    go i e (inr l) =
-        let t : tells Receiver (at labels i) ≡ true = sym (word-set (length labels) (λ i. tells Receiver (at labels i)) i l) ∙ eq-eqb (bit (wordFor Receiver labels) i) 1 e in
-        word-bit (λ i. tells Heard (at labels i)) (length labels) i l ∙ ap (λ (b : Bool). cond b 1 0) (receiver-heard-2 (at labels i) t)
 
 -- ---- words to labels and back
 
@@ -223,10 +211,6 @@ module _ (rows heard receiver : ℕ) where
       go true false f = refl
       go false true f = absurd (false≢true (f refl))
       go false false f = refl
-
--- words that can be carried are below 2 to the row count
-pub carried-below : (rows : ℕ) {heard receiver : ℕ} → heard < 2 ^ 64 → receiver < 2 ^ 64 → Carried rows heard receiver → (heard < 2 ^ rows) × (receiver < 2 ^ rows)
-carried-below rows {heard} {receiver} h r c = (below-of-bits 64 heard rows h (λ i k l. c .heard-none i l), below-of-bits 64 receiver rows r (λ i k l. c .receiver-none i l))
 
 -- ---- "The number heard is the number of ones"
 

@@ -15,3 +15,21 @@ pub fn below(state: u64, limit: u16) -> u16
 {
     ((state >> 32) % (limit as u64)) as u16
 }
+
+// The same of any limit: 0 if the limit is 0.
+pub fn below_any(state: u64, limit: u16) -> u16 {
+    if limit == 0 {
+        return 0;
+    }
+    below(state, limit)
+}
+
+// The same from the lower half of a state.
+pub fn below_too(state: u64, limit: u16) -> u16 {
+    below_any(state << 32, limit)
+}
+
+// One of the `count` numbers from `low` on.
+pub fn from(state: u64, low: u16, count: u16) -> u16 {
+    std::num::wrapping_add_u16(low, below_any(state, count))
+}

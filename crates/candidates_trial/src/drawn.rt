@@ -1,5 +1,8 @@
 // Tables of up to 6 rows with 1 to 4 candidates, drawn from a pseudo-random sequence: short days, so that much overlaps, touches and is equal, with faults of every kind among them.
 use brute_force::random;
+use brute_force::random::below_any;
+use brute_force::random::below_too;
+use brute_force::random::from;
 use trial_calls::LENT_BYTES;
 use window::Row;
 
@@ -41,24 +44,6 @@ pub struct Drawn {
     pub list: Rows,
     pub lent: Lists,
     pub state: u64,
-}
-
-// A number below the limit, from the upper half of a state; 0 if the limit is 0.
-fn below(state: u64, limit: u16) -> u16 {
-    if limit == 0 {
-        return 0;
-    }
-    random::below(state, limit)
-}
-
-// The same from the lower half.
-fn below_too(state: u64, limit: u16) -> u16 {
-    below(state << 32, limit)
-}
-
-// One of the `count` numbers from `low` on.
-fn from(state: u64, low: u16, count: u16) -> u16 {
-    std::num::wrapping_add_u16(low, below(state, count))
 }
 
 // ---- rows
@@ -119,19 +104,19 @@ fn length(d: Days, state: u64) -> u16 {
 // Half of the marks are 0, the others each mark alike; wrong ones are 6 and 255.
 fn draw_mark(d: Days, state: u64) -> u8 {
     if below_too(state, d.often) == 0 {
-        return if below(state, 2) == 0 { 6 } else { 255 };
+        return if below_any(state, 2) == 0 { 6 } else { 255 };
     }
-    let n = below(state, 11);
+    let n = below_any(state, 11);
     if n < 6 { n as u8 } else { 0 }
 }
 
 fn draw_row(d: Days, state: u64) -> Row {
     let a = random::next(state);
     let b = random::next(a);
-    let start = below(state, d.ticks);
+    let start = below_any(state, d.ticks);
     let mark = draw_mark(d, b);
     let fault = random::next(b);
-    if below(fault, d.often) == 0 {
+    if below_any(fault, d.often) == 0 {
         return wrong_window(d, start, mark, below_too(fault, 2) == 0);
     }
     Row {
@@ -191,8 +176,8 @@ fn draw_gap(ticks: u16, state: u64) -> u16 {
 
 // A receiver opens in the first part of the day and closes in the last; it may be closed, close before it opens, or close after the day's end.
 fn hours_of(ticks: u16, state: u64) -> [u16; 2] {
-    let p = below(state, ticks / 3 + 1);
-    let q = std::num::wrapping_sub_u16(ticks, below(random::next(state), ticks / 3 + 1));
+    let p = below_any(state, ticks / 3 + 1);
+    let q = std::num::wrapping_sub_u16(ticks, below_any(random::next(state), ticks / 3 + 1));
     match below_too(state, 32) {
         0 => [p, p],
         1 => [std::num::wrapping_add_u16(q, 1), q],
@@ -211,7 +196,7 @@ fn draw_hours(ticks: u16, state: u64) -> [u16; 4] {
 
 // 64 for one table in ten, and 65 for one in 32.
 fn lent_rows(rows: usize, state: u64) -> usize {
-    match below(state, 32) {
+    match below_any(state, 32) {
         0 => 65,
         1..=3 => 64,
         _ => rows,
@@ -220,7 +205,7 @@ fn lent_rows(rows: usize, state: u64) -> usize {
 
 // 65 for one call in 32.
 fn lent_candidates(candidates: usize, state: u64) -> usize {
-    if below(state, 32) == 0 {
+    if below_any(state, 32) == 0 {
         65
     } else {
         candidates
@@ -250,7 +235,7 @@ fn draw_lists(rows: usize, candidates: usize, state: u64) -> Lists {
     let b = random::next(a);
     let n = lent_rows(rows, state);
     let m = lent_candidates(candidates, b);
-    let fault = below(a, 96);
+    let fault = below_any(a, 96);
     let fault2 = below_too(a, 80);
     Lists {
         starts: places(n, 0, fault),
@@ -298,7 +283,7 @@ fn draw_table(d: Days, state: u64) -> Table {
         ticks: lent_ticks(d.ticks, state),
         gap: draw_gap(d.ticks, a),
         hours: draw_hours(d.ticks, b),
-        rows: below(state, 7) as usize,
+        rows: below_any(state, 7) as usize,
         list: draw_rows(d, c),
     }
 }

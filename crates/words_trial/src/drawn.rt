@@ -1,6 +1,9 @@
 // Windows drawn from a pseudo-random sequence: short days, so that much overlaps, touches and is equal, with faults of every kind among them.
 use crate::counted::Window;
 use brute_force::random;
+use brute_force::random::below_any;
+use brute_force::random::below_too;
+use brute_force::random::from;
 
 // A call: a run or a round of so many ticks, with hours p1, q1, p2, q2, so many rows, and as many places as each list is lent.
 pub struct Drawn {
@@ -28,24 +31,6 @@ pub struct Lists {
     pub starts: usize,
     pub ends: usize,
     pub words: usize,
-}
-
-// A number below the limit, from the upper half of a state; 0 if the limit is 0.
-fn below(state: u64, limit: u16) -> u16 {
-    if limit == 0 {
-        return 0;
-    }
-    random::below(state, limit)
-}
-
-// The same from the lower half.
-fn below_too(state: u64, limit: u16) -> u16 {
-    below(state << 32, limit)
-}
-
-// One of the `count` numbers from `low` on.
-fn from(state: u64, low: u16, count: u16) -> u16 {
-    std::num::wrapping_add_u16(low, below(state, count))
 }
 
 // ---- rows
@@ -98,7 +83,7 @@ fn length(d: Days, state: u64) -> u16 {
 }
 
 fn draw_window(d: Days, state: u64, wrong: bool) -> Window {
-    let start = below(state, d.ticks);
+    let start = below_any(state, d.ticks);
     if wrong {
         return wrong_window(d, start, below_too(state, 2) == 0);
     }
@@ -154,9 +139,9 @@ fn draw_hours(ticks: u16, state: u64) -> [u16; 4] {
     let a = random::next(state);
     let limit = std::num::wrapping_add_u16(ticks, 2);
     [
-        below(state, limit),
+        below_any(state, limit),
         below_too(state, limit),
-        below(a, limit),
+        below_any(a, limit),
         below_too(a, limit),
     ]
 }
@@ -169,7 +154,7 @@ fn draw_count(state: u64) -> usize {
         0 => 63,
         1 => 64,
         2 => 65,
-        _ => below(state, 8) as usize,
+        _ => below_any(state, 8) as usize,
     }
 }
 
@@ -184,7 +169,7 @@ fn places(n: usize, list: u16, fault: u16) -> usize {
 
 // One call in 16 has a list that is too long.
 fn draw_lists(n: usize, state: u64) -> Lists {
-    let fault = below(state, 48);
+    let fault = below_any(state, 48);
     Lists {
         starts: places(n, 0, fault),
         ends: places(n, 1, fault),
@@ -212,7 +197,7 @@ fn draw_wrong(rows: usize, state: u64) -> usize {
     if 60 < rows {
         return from(state, 60, 5) as usize;
     }
-    below(state, 8) as usize
+    below_any(state, 8) as usize
 }
 
 pub fn draw(state: u64) -> Drawn {
