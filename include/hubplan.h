@@ -44,7 +44,7 @@ enum {
     HUB_MOST_ROWS = 64,
     HUB_MOST_CANDIDATES = 64,
     HUB_MOST_GAP = 600,
-    HUB_SPACE_BYTES = 16384,    /* working space of the planner */
+    HUB_SPACE_BYTES = 4608,     /* the shortest working space, and how many of its bytes are cleared where any are */
     HUB_PLAN_TAPE_BYTES = 392,  /* the longest plan tape: 8 + 6 * 64 */
     HUB_FLEET_TAPE_BYTES = 400, /* the longest fleet tape that hub_reply takes */
     HUB_REPLY_BYTES = 400       /* room that hub_reply asks for */
@@ -77,7 +77,7 @@ struct hub_answer {
  *
  * Accepted: labels are the plan with the most heard rows (label 1 or 2, the receiver; 0 is not heard), and of those the one that comes first in paper 01's order; no
  * other list of labels that is a plan hears more. The count is the number of labels that are 1 or 2. The first HUB_SPACE_BYTES of the working space are cleared to
- * zero, bytes beyond are untouched. What labels and working space held before makes no difference.
+ * zero, bytes beyond are untouched. What labels and working space held before, and how many bytes are lent beyond, makes no difference.
  * Refusal 8 exactly if no list of labels is a plan: labels are untouched, the same part of the working space is cleared.
  * Any other refusal: labels and working space are untouched. Order: 1, 2, 3, 4, 14, rows from 0, each for 6 and then 7, then 8. */
 struct hub_answer hub_plan_round(uint16_t ticks, uint16_t gap,
@@ -139,7 +139,8 @@ struct hub_report hub_read_fleet(const uint8_t *tape, size_t tape_length,
 
 /* Writes to the front of `out` what `hubplan` prints for a fleet tape, and returns how many bytes that is: "heard" and the count, then a line per row with its number
  * and label; or "refused" and the number. The gap is 0. A tape longer than 400 bytes gives "refused 11". The rest of `out` is untouched; the working space is left as the
- * planner leaves it, and untouched where the planner is not reached. Where `out` is shorter than HUB_REPLY_BYTES nothing is written and the result is 0. */
+ * planner leaves it, and untouched where the planner is not reached. Where `out` is shorter than HUB_REPLY_BYTES nothing is written and the result is 0. Order: 11 and 2 of the
+ * tape, then those of the planner from 3 on, which is for a working space shorter than HUB_SPACE_BYTES here too. */
 size_t hub_reply(const uint8_t *tape, size_t tape_length,
                  uint8_t *out, size_t out_length,
                  uint8_t *space, size_t space_length);

@@ -1,6 +1,6 @@
 /* Tests include/hubplan.h by itself: every function is called as the header declares it, on paper 01's session, on runs with unequal hours, with each mark, with windows that
- * cover every tick, with gaps, on held tables, with candidates, with words of one bit per row, at each limit and for each refusal, and every constant, field and parameter is
- * compared with the papers'. The numbers here are the papers', since the header's constants are what is tested.
+ * cover every tick, with gaps, on held tables, with candidates, with words of one bit per row, with working space of several lengths, at each limit and for each refusal, and every
+ * constant, field and parameter is compared with the papers'. The numbers here are the papers', since the header's constants are what is tested.
  *
  *   gcc -std=c99 -Wall -Wextra -Wpedantic -Werror -Iinclude tests/header.c target/staticlib/libhub_c.a -o target/header && target/header
  */
@@ -48,7 +48,8 @@
 #undef hub_clash_words_run
 
 #define ROWS 64
-#define SPACE 16384
+#define SPACE 4608
+#define FORMER 16384 /* the working space that a call needed and cleared before request 9 */
 #define TAPE 392
 #define REPLY 400
 #define BEYOND 16   /* room after each output, which no call may touch */
@@ -91,7 +92,7 @@ struct fleet {
     size_t length;
 };
 
-static uint8_t space[SPACE + BEYOND];
+static uint8_t space[FORMER + BEYOND];
 static uint8_t tape[TAPE + BEYOND];
 static uint8_t out[REPLY + BEYOND];
 
@@ -144,11 +145,11 @@ static void check_refusal(const char *what, unsigned got, unsigned number)
     check(what, "the refusal by the header's constant", got == refusals[number]);
 }
 
-/* The first 16,384 bytes are cleared or as they were, those beyond are as they were. */
+/* The first 4,608 bytes are cleared or as they were; those beyond, lent or not, are as they were. */
 static void check_space(const char *what, bool cleared)
 {
     check(what, "the working space", all_are(space, SPACE, cleared ? 0 : BEFORE));
-    check(what, "the bytes beyond the working space", all_are(space + SPACE, BEYOND, BEFORE));
+    check(what, "the bytes beyond the working space", all_are(space + SPACE, sizeof space - SPACE, BEFORE));
 }
 
 /* ---- tables ---- */
@@ -404,21 +405,34 @@ static void read_refused(const char *what, const struct fleet *f, struct places 
 
 /* ---- the reply ---- */
 
-static void replied(const char *what, const struct fleet *f, const char *text, bool cleared)
+/* In so many bytes of working space. */
+static void replied_in(const char *what, const struct fleet *f, size_t space_length, const char *text, bool cleared)
 {
     memset(space, BEFORE, sizeof space);
     memset(out, BEFORE, sizeof out);
-    size_t length = hub_reply(f->bytes, f->length, out, REPLY, space, SPACE);
+    size_t length = hub_reply(f->bytes, f->length, out, REPLY, space, space_length);
     check(what, "the reply's length", length == strlen(text));
     check(what, "the reply", memcmp(out, text, strlen(text)) == 0);
     check(what, "the bytes after the reply", all_are(out + strlen(text), sizeof out - strlen(text), BEFORE));
     check_space(what, cleared);
 }
 
+static void replied(const char *what, const struct fleet *f, const char *text, bool cleared)
+{
+    replied_in(what, f, SPACE, text, cleared);
+}
+
+/* A tape that is refused as it is read, which comes before 3. */
+static void tape_refused(const char *what, const struct fleet *f, const char *text)
+{
+    replied(what, f, text, false);
+    replied_in(what, f, SPACE - 1, text, false);
+}
+
 static void replied_to(const char *what, const struct lent *t, const char *text, bool cleared)
 {
     struct fleet f = fleet_of(t);
-    replied(what, &f, text, cleared);
+    replied_in(what, &f, t->space_length, text, cleared);
 }
 
 /* ---- the player ---- */
@@ -1469,18 +1483,18 @@ static void replies(void)
     check("output of 399 bytes", "the result is 0", hub_reply(f.bytes, f.length, out, HUB_REPLY_BYTES - 1, space, SPACE) == 0);
     check("output of 399 bytes", "the output is untouched", all_are(out, sizeof out, BEFORE));
     check_space("output of 399 bytes", false);
-    check("space of 16,383 bytes", "the length", hub_reply(f.bytes, f.length, out, sizeof out, space, HUB_SPACE_BYTES - 1) == 10);
-    check("space of 16,383 bytes", "the reply", memcmp(out, "refused 3\n", 10) == 0);
-    check("space of 16,383 bytes", "the bytes after the reply", all_are(out + 10, sizeof out - 10, BEFORE));
-    check_space("space of 16,383 bytes", false);
+    check("space of 4,607 bytes", "the length", hub_reply(f.bytes, f.length, out, sizeof out, space, HUB_SPACE_BYTES - 1) == 10);
+    check("space of 4,607 bytes", "the reply", memcmp(out, "refused 3\n", 10) == 0);
+    check("space of 4,607 bytes", "the bytes after the reply", all_are(out + 10, sizeof out - 10, BEFORE));
+    check_space("space of 4,607 bytes", false);
     f.length--;
-    replied("no STOP", &f, "refused 11\n", false);
+    tape_refused("no STOP", &f, "refused 11\n");
     f = long_fleet(79);
     check("79 rows", "the longest round that hub_reply reads", f.length == 399 && f.length <= HUB_FLEET_TAPE_BYTES);
-    replied("79 rows", &f, "refused 2\n", false);
+    tape_refused("79 rows", &f, "refused 2\n");
     f = long_fleet(80);
     check("80 rows", "longer than hub_reply takes", f.length > HUB_FLEET_TAPE_BYTES);
-    replied("80 rows", &f, "refused 11\n", false);
+    tape_refused("80 rows", &f, "refused 11\n");
     end_group("replies");
 }
 
@@ -1680,11 +1694,11 @@ static void held_limits(void)
     add_refused("the 65th row again", &h, 80, 81, 0, 2);
     withdrew("row 0 of 64", &h, 0, ones + 1);
     h.space_length = SPACE - 1;
-    add_refused("16,383 bytes", &h, 80, 81, 0, 3);
-    withdraw_refused("16,383 bytes", &h, 0, 3);
+    add_refused("4,607 bytes", &h, 80, 81, 0, 3);
+    withdraw_refused("4,607 bytes", &h, 0, 3);
     h.space_length = SPACE + BEYOND;
-    added("more than 16,384 bytes", &h, 80, 81, 0, ones);
-    withdrew("more than 16,384 bytes", &h, 1, ones + 1);
+    added("more than 4,608 bytes", &h, 80, 81, 0, ones);
+    withdrew("more than 4,608 bytes", &h, 1, ones + 1);
     for (size_t rows = ROWS - 1; rows > 0; rows--)
         withdrew("down to no rows", &h, 29 % rows, ones + ROWS + 1 - rows);
     withdraw_refused("row 0 of none", &h, 0, 15);
@@ -1833,9 +1847,9 @@ static void candidate_limits(bool run)
     struct tries c = with_candidates(many(run, ROWS - 1), ROWS, rows);
     tried("63 rows and 64 candidates", &c, answers, 127);
     c.table.space_length = SPACE - 1;
-    try_refused("16,383 bytes", &c, 3, 0);
+    try_refused("4,607 bytes", &c, 3, 0);
     c.table.space_length = SPACE + 1;
-    tried("16,385 bytes", &c, answers, 127);
+    tried("4,609 bytes", &c, answers, 127);
     static const uint16_t ticks[4] = {0, 1, 43201, 65535};
     for (size_t i = 0; i < 4; i++) {
         c.table.ticks = ticks[i];
@@ -1923,6 +1937,74 @@ static void all_candidate_refusals(void)
         candidate_refusals(run ? "hub_try_candidates_run" : "hub_try_candidates_round", run);
     }
     end_group("refusals of candidates");
+}
+
+/* P2, or P9 in a run, in so many bytes: planned, from its fleet tape and beside a candidate; then with three rows that must be heard and cannot all be. */
+static void plans_in(const char *what, bool run, size_t space_length)
+{
+    uint16_t rows[1][3] = {{60, 90, 0}}; /* beside all rows */
+    uint8_t answers[1][2] = {{0, run ? 3 : 4}};
+    struct tries c = with_candidates(run ? p9() : session(), 1, rows);
+    struct lent *t = &c.table;
+    t->space_length = space_length;
+    planned_and_replied(what, t, run ? "201" : "1201");
+    tried(what, &c, answers, t->starts_length + 1);
+    t->marks[0] = t->marks[1] = t->marks[2] = 1;
+    planned_and_replied(what, t, NULL);
+    try_refused(what, &c, 8, t->starts_length);
+}
+
+/* Rows added and withdrawn in so many bytes; then, of four rows that no call leaves, three that must be heard at once. */
+static void changes_in(const char *what, size_t space_length)
+{
+    struct held h = begun(what, 100, 0, 0);
+    h.space_length = space_length;
+    added(what, &h, 10, 30, 1, "1");
+    added(what, &h, 20, 40, 1, "12");
+    add_refused(what, &h, 25, 50, 1, 8);
+    withdrew(what, &h, 0, "1");
+    for (size_t i = 0; i < 4; i++)
+        h.starts[i] = 25, h.ends[i] = 50, h.marks[i] = 1;
+    h.numbers.rows = 4;
+    withdraw_refused(what, &h, 0, 8);
+}
+
+/* Too few bytes: 3 and nothing cleared, whether there is a plan or not. */
+static void too_few(const char *what, bool run, size_t space_length)
+{
+    uint16_t rows[1][3] = {{60, 90, 0}};
+    struct tries c = with_candidates(run ? p9() : session(), 1, rows);
+    struct held h = begun(what, 100, 0, 0);
+    added(what, &h, 10, 30, 1, "1");
+    c.table.space_length = h.space_length = space_length;
+    for (uint8_t mark = 0; mark < 2; mark++) {
+        c.table.marks[0] = c.table.marks[1] = c.table.marks[2] = mark;
+        plan_refused(what, &c.table, 3);
+        replied_to(what, &c.table, "refused 3\n", false);
+        try_refused(what, &c, 3, 0);
+        add_refused(what, &h, 25, 50, mark, 3);
+        withdraw_refused(what, &h, 0, 3);
+    }
+}
+
+/* Both sides of 4,608 and of 16,384, up to all that is there. */
+static void space_lengths(void)
+{
+    static const size_t lengths[8] = {0, 1, SPACE - 1, SPACE, SPACE + 1, FORMER - 1, FORMER, FORMER + BEYOND};
+    for (size_t i = 0; i < 16; i++) {
+        size_t length = lengths[i / 2];
+        bool run = i % 2;
+        char what[60];
+        snprintf(what, sizeof what, "%zu bytes of working space", length);
+        if (length < SPACE) {
+            too_few(what, run, length);
+            continue;
+        }
+        plans_in(what, run, length);
+        if (!run)
+            changes_in(what, length);
+    }
+    end_group("working space");
 }
 
 /* Ones for the rows below. */
@@ -2192,6 +2274,7 @@ int main(void)
     candidate_examples();
     candidate_marks();
     all_candidate_refusals();
+    space_lengths();
     words_of_labels();
     words_of_labels_refused();
     labels_of_words_refused();

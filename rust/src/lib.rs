@@ -18,8 +18,8 @@ pub const MAX_ROWS: usize = 64;
 /// The most candidates of a call.
 pub const MAX_CANDIDATES: usize = 64;
 
-/// The working space that the planner needs and clears, in bytes.
-pub const SPACE_BYTES: usize = 16_384;
+/// The shortest working space that is not refused, `Refusal::Space`, and how many of its bytes a call clears that clears any.
+pub const SPACE_BYTES: usize = 4_608;
 
 /// The longest plan tape: 8 bytes and 6 for each of 64 rows.
 pub const PLAN_TAPE_BYTES: usize = 392;
@@ -409,7 +409,8 @@ fn answer(reported: c::HubAnswer) -> Result<usize, Refusal> {
 }
 
 /// Plans a table, a row at each place of starts, ends and marks (0 to 5, see `mark`): the plan with the most heard rows, of those the first in paper 01's order. Gives the
-/// count, fills the labels and clears the first `SPACE_BYTES` of the working space; a refusal leaves labels and working space, except that `NoPlan` clears the same part.
+/// count, fills the labels and clears the first `SPACE_BYTES` of the working space, and leaves the bytes beyond; a refusal leaves labels and working space, except that `NoPlan`
+/// clears the same part.
 ///
 /// In a round a window covers the ticks from its start on, after the last tick from 0 on, up to the tick before its end; start equal to end covers every tick and overlaps
 /// every window. Both are below `ticks`, else `Window`. In a run a window covers its start to the tick before its end; the start is below the end and the end at most `ticks`.
@@ -547,7 +548,8 @@ pub fn read_fleet(tape: &[u8], starts: &mut [u16], ends: &mut [u16], marks: &mut
     })
 }
 
-/// Writes to the front of `out` what `hubplan` prints for a fleet tape, with a gap of 0, and gives that text; nothing where `out` is shorter than `REPLY_BYTES`.
+/// Writes to the front of `out` what `hubplan` prints for a fleet tape, with a gap of 0, and gives that text; nothing where `out` is shorter than `REPLY_BYTES`. The working
+/// space fares as in `plan`, and is left where nothing is planned.
 pub fn reply<'a>(tape: &[u8], out: &'a mut [u8], space: &mut [u8]) -> &'a [u8] {
     // SAFETY: as in `plan`.
     let length = unsafe { c::hub_reply(tape.as_ptr(), tape.len(), out.as_mut_ptr(), out.len(), space.as_mut_ptr(), space.len()) };

@@ -4,6 +4,7 @@ mod candidates;
 mod held;
 mod papers;
 mod player;
+mod space;
 mod words;
 
 use hubplan::distance::Remainder;
@@ -17,18 +18,31 @@ fn numbers(answer: Result<usize, Refusal>) -> (u8, usize) {
     }
 }
 
+/// What labels hold before a call.
+fn lent_labels(labels: usize) -> Vec<u8> {
+    (0..labels).map(|i| 0xa0 + i as u8 % 7).collect()
+}
+
+/// Working space before a call: no byte is 0 or equal to the next.
+fn lent_space(space: usize) -> Vec<u8> {
+    (0..space).map(|i| 1 + (i % 251) as u8).collect()
+}
+
+/// So much working space before a call with this refusal, and after it.
+fn spaces(space: usize, refusal: u8) -> (Vec<u8>, Vec<u8>) {
+    let before = lent_space(space);
+    let after = papers::space::RIGHT.after(refusal, &before);
+    (before, after)
+}
+
 /// Plans and compares answer, labels and the whole working space with what the papers ask; gives the refusal's number.
 fn compare_plan(planner: Planner, table: &Table, labels: usize, space: usize, right: &(u8, usize, Vec<u8>)) -> u8 {
-    let mut given_labels: Vec<u8> = (0..labels).map(|i| 0xa0 + i as u8 % 7).collect();
-    let mut given_space: Vec<u8> = (0..space).map(|i| 1 + (i % 251) as u8).collect();
-    let mut right_space = given_space.clone();
-    let answer = table.plan(planner, &mut given_labels, &mut given_space);
+    let mut labels = lent_labels(labels);
+    let (mut space, after) = spaces(space, right.0);
+    let answer = table.plan(planner, &mut labels, &mut space);
     assert_eq!(numbers(answer), (right.0, right.1), "{table:?}");
-    assert_eq!(given_labels, right.2, "{table:?}");
-    if right.0 == 0 || right.0 == 8 {
-        right_space[..SPACE_BYTES].fill(0);
-    }
-    assert!(given_space == right_space, "working space, {table:?}");
+    assert_eq!(labels, right.2, "{table:?}");
+    assert!(space == after, "working space, {table:?}");
     right.0
 }
 
@@ -41,8 +55,7 @@ fn compare_written(rules: &papers::Rules, table: &Table, labels: &[u8], mut buff
 }
 
 fn right_plan(table: &Table, labels: usize, space: usize) -> (u8, usize, Vec<u8>) {
-    let before: Vec<u8> = (0..labels).map(|i| 0xa0 + i as u8 % 7).collect();
-    papers::planned(&papers::RULES, table, &before, space)
+    papers::planned(&papers::RULES, table, &lent_labels(labels), space)
 }
 
 fn random_hours(sequence: &mut Sequence, ticks: u32) -> [[u16; 2]; 2] {
@@ -335,7 +348,7 @@ fn damage(sequence: &mut Sequence, table: &mut Table, labels: &mut usize, space:
                 table.marks.resize(rows, 0);
                 *labels = rows;
             }
-            6 => *space = sequence.within(0, 16_383) as usize,
+            6 => *space = sequence.within(0, SPACE_BYTES as u32 - 1) as usize,
             7 => table.ticks = [0, 1, 43_201, 65_535][sequence.within(0, 3) as usize],
             8 => {
                 if let Kind::Run(hours) = &mut table.kind {
@@ -399,7 +412,8 @@ fn edges_of_paper_01() {
     }
     assert_eq!(plan(&of(Kind::Round, 100, &[(0, 1); 64]), 64, SPACE_BYTES), 0);
     assert_eq!(plan(&of(Kind::Round, 100, &[(0, 1); 65]), 65, SPACE_BYTES), 2);
-    assert_eq!(plan(&of(Kind::Round, 100, &[]), 0, SPACE_BYTES - 1), 3);
+    assert_eq!(plan(&of(Kind::Round, 100, &[]), 0, 4_607), 3);
+    assert_eq!(plan(&of(Kind::Round, 100, &[]), 0, 4_608), 0);
     assert_eq!(plan(&of(Kind::Round, 100, &[(5, 100)]), 1, SPACE_BYTES), 6);
     assert_eq!(plan(&of(open(100), 100, &[(5, 100)]), 1, SPACE_BYTES), 0);
 
@@ -653,8 +667,7 @@ fn as_known(former: &Former, table: &Table) -> Table {
 /// Plans a table that the former rules know, and writes tapes: all as by those rules. Gives the refusals of plan and tape.
 fn compare_with_former(sequence: &mut Sequence, former: &Former, table: &Table) -> (u8, u8) {
     let rows = table.rows();
-    let before: Vec<u8> = (0..rows).map(|i| 0xa0 + i as u8 % 7).collect();
-    let plan = papers::planned(&former.rules, table, &before, SPACE_BYTES);
+    let plan = papers::planned(&former.rules, table, &lent_labels(rows), SPACE_BYTES);
     compare_plan(hubplan::plan, table, rows, SPACE_BYTES, &plan);
     compare_plan(port::plan, table, rows, SPACE_BYTES, &plan);
     assert_eq!(right_plan(table, rows, SPACE_BYTES), plan, "{table:?}");
@@ -901,7 +914,7 @@ fn row_commands_are_40_to_45() {
                 let answer = hubplan::read_fleet(&tape, &mut starts, &mut ends, &mut marks);
                 let (mut out, mut space) = ([0; REPLY_BYTES], [0; SPACE_BYTES]);
                 let text = String::from_utf8_lossy(hubplan::reply(&tape, &mut out, &mut space)).to_string();
-                assert_eq!(text, papers::reply(&tape), "{tape:02x?}");
+                assert_eq!(text, papers::reply(&tape, SPACE_BYTES).1, "{tape:02x?}");
                 let i = rows.len() / 5;
                 if !(0x40..=0x45).contains(&command) {
                     assert_eq!((answer, marks[i]), (Err(Refusal::Form), 0xee), "{tape:02x?}");
@@ -930,21 +943,20 @@ fn replies() {
         };
         let before: Vec<u8> = (0..room).map(|i| i as u8 | 0x80).collect();
         let mut out = before.clone();
-        let mut space = vec![0xee; SPACE_BYTES + 5];
+        // 1 stands for an output that is too short, which is written nothing
+        let (refusal, right) = if room < REPLY_BYTES {
+            (1, String::new())
+        } else {
+            papers::reply(&tape, SPACE_BYTES + 5)
+        };
+        let (mut space, after) = spaces(SPACE_BYTES + 5, refusal);
         let text = hubplan::reply(&tape, &mut out, &mut space).to_vec();
-        let right = if room < REPLY_BYTES { String::new() } else { papers::reply(&tape) };
         assert_eq!(String::from_utf8_lossy(&text), right, "{tape:02x?}");
         assert_eq!(out[text.len()..], before[text.len()..], "{tape:02x?}");
-        let cleared = right.starts_with("heard") || right == "refused 8\n";
-        let byte = if cleared { 0 } else { 0xee };
-        assert!(
-            space[..SPACE_BYTES].iter().all(|&b| b == byte) && space[SPACE_BYTES..] == [0xee; 5],
-            "{tape:02x?}"
-        );
-        let number = right.trim_end().strip_prefix("refused ").map_or(0, |number| number.parse().unwrap());
-        seen[if room < REPLY_BYTES { 1 } else { number }] += 1;
+        assert!(space == after, "working space, {tape:02x?}");
+        seen[refusal as usize] += 1;
     }
-    assert!([0, 1, 2, 6, 8, 11].iter().all(|&number: &usize| seen[number] > 50), "{seen:?}");
+    assert!([0, 1, 2, 6, 8, 11].iter().all(|&number| seen[number] > 50), "{seen:?}");
 }
 
 #[test]
@@ -960,5 +972,5 @@ fn the_papers_agree_with_themselves() {
         0x10, 0x00, 0x64, 0x40, 0x00, 0x0a, 0x00, 0x1e, 0x40, 0x00, 0x14, 0x00, 0x28, 0x40, 0x00, 0x19, 0x00, 0x32, 0x40, 0x00, 0x5a, 0x00, 0x0a,
         0x7f,
     ];
-    assert_eq!(papers::reply(&tape), "heard 3\n0 1\n1 2\n2 0\n3 1\n");
+    assert_eq!(papers::reply(&tape, SPACE_BYTES), (0, "heard 3\n0 1\n1 2\n2 0\n3 1\n".to_string()));
 }

@@ -18,7 +18,7 @@ use window::MAX_GAP;
 use window::Row;
 
 // The working space that a call needs and clears, in bytes.
-pub const SPACE_BYTES: usize = 16384;
+pub const SPACE_BYTES: usize = 4608;
 
 // An arc of a circle: its first tick and how many ticks it has.
 pub struct Arc {
@@ -159,7 +159,7 @@ fn plan_lent(
 }
 
 // Plans a table that has passed its checks. It leaves open what the first 4,608 bytes of the working space then hold.
-// Arrays held in this crate and in `tracks`, which it calls: 128 + 128 + 64 bytes here and 128 there, 448 in sum.
+// Its arrays and those of the core are in the account of docs/MEMORY.md.
 pub fn plan_checked(
     setting: Setting,
     starts: &[u16],

@@ -123,26 +123,26 @@ Reports t c numbers counts space r n = reported t c numbers counts space ≡ loo
 
 -- "table rows plus candidates"; none of either; 64 candidates
 pub accepted :
-    Reports (p2 0 0 0) some 5 5 16384 Accepted 9
-    × Reports (p2 0 0 0) (of []) 0 0 16384 Accepted 4
-    × Reports (round 100 0 []) some 5 5 16385 Accepted 5
-    × Reports (round 100 0 []) (of []) 0 0 16384 Accepted 0
-    × Reports (round 100 0 []) (of (replicate 64 (row 1 2 0))) 64 64 16384 Accepted 64
+    Reports (p2 0 0 0) some 5 5 4608 Accepted 9
+    × Reports (p2 0 0 0) (of []) 0 0 4608 Accepted 4
+    × Reports (round 100 0 []) some 5 5 4609 Accepted 5
+    × Reports (round 100 0 []) (of []) 0 0 4608 Accepted 0
+    × Reports (round 100 0 []) (of (replicate 64 (row 1 2 0))) 64 64 4608 Accepted 64
 unfolding reported
 accepted = (refl, refl, refl, refl, refl)
 
 -- "If the table stops at row k it is k+1, and 0 if refused sooner. A table without a plan is refused 8, its count being its rows alone."
 pub stopped :
-    Reports (round 100 0 (row 1 1 9 ∷ row 100 1 0 ∷ [])) some 5 5 16384 Mark 1
-    × Reports (round 100 0 (row 100 1 9 ∷ row 100 1 0 ∷ [])) some 5 5 16384 Window 1
-    × Reports (p2 0 0 6) some 5 5 16384 Mark 3
-    × Reports (round 50 0 (row 10 30 0 ∷ row 20 40 0 ∷ row 25 50 0 ∷ [])) some 5 5 16384 Window 3
-    × Reports (round 1 601 (row 10 30 0 ∷ [])) some 5 5 16384 Ticks 0
-    × Reports (round 43201 0 []) some 5 5 16384 Ticks 0
-    × Reports (tableOf (settingOf Run 100 601 (hoursFrom 0 101 0 100)) (row 1 1 0 ∷ [])) some 5 5 16384 Hours 0
-    × Reports (round 100 601 (row 100 1 0 ∷ [])) some 5 5 16384 Gap 0
-    × Reports (p2 1 1 1) some 5 5 16384 NoPlan 4
-    × Reports (p2 1 1 1) (of []) 0 0 16384 NoPlan 4
+    Reports (round 100 0 (row 1 1 9 ∷ row 100 1 0 ∷ [])) some 5 5 4608 Mark 1
+    × Reports (round 100 0 (row 100 1 9 ∷ row 100 1 0 ∷ [])) some 5 5 4608 Window 1
+    × Reports (p2 0 0 6) some 5 5 4608 Mark 3
+    × Reports (round 50 0 (row 10 30 0 ∷ row 20 40 0 ∷ row 25 50 0 ∷ [])) some 5 5 4608 Window 3
+    × Reports (round 1 601 (row 10 30 0 ∷ [])) some 5 5 4608 Ticks 0
+    × Reports (round 43201 0 []) some 5 5 4608 Ticks 0
+    × Reports (tableOf (settingOf Run 100 601 (hoursFrom 0 101 0 100)) (row 1 1 0 ∷ [])) some 5 5 4608 Hours 0
+    × Reports (round 100 601 (row 100 1 0 ∷ [])) some 5 5 4608 Gap 0
+    × Reports (p2 1 1 1) some 5 5 4608 NoPlan 4
+    × Reports (p2 1 1 1) (of []) 0 0 4608 NoPlan 4
 unfolding reported
 stopped = (refl, refl, refl, refl, refl, refl, refl, refl, refl, refl)
 
@@ -153,16 +153,16 @@ uneven = table (settingOf Round 1 0 noHours) (1 ∷ []) (2 ∷ 3 ∷ []) (0 ∷ 
 -- 1, 2, 3, and then 16: "candidate and answer lists of unequal length or beyond 64, after 3"; of two faults the first
 pub lent-wrong :
     Reports uneven (candidates (1 ∷ []) [] []) 5 5 0 Lists 0
-    × Reports (full 65) (candidates (1 ∷ []) [] []) 5 5 16383 Rows 0
-    × Reports (p2 0 0 0) (candidates (1 ∷ []) [] []) 1 1 16383 Space 0
-    × Reports (p2 0 0 0) some 5 5 16383 Space 0
-    × Reports (p2 0 0 0) (candidates (1 ∷ []) [] (0 ∷ [])) 1 1 16384 Candidates 0
-    × Reports (p2 0 0 0) (candidates (1 ∷ []) (2 ∷ []) []) 1 1 16384 Candidates 0
-    × Reports (p2 0 0 0) some 4 5 16384 Candidates 0
-    × Reports (p2 0 0 0) some 5 6 16384 Candidates 0
-    × Reports (p2 0 0 0) some 4 4 16384 Candidates 0
-    × Reports (p2 0 0 0) (of (replicate 65 (row 1 2 0))) 65 65 16384 Candidates 0
-    × Reports (round 1 0 []) some 5 4 16384 Candidates 0
-    × Reports (p2 1 1 1) some 5 4 16384 Candidates 0
+    × Reports (full 65) (candidates (1 ∷ []) [] []) 5 5 4607 Rows 0
+    × Reports (p2 0 0 0) (candidates (1 ∷ []) [] []) 1 1 4607 Space 0
+    × Reports (p2 0 0 0) some 5 5 4607 Space 0
+    × Reports (p2 0 0 0) (candidates (1 ∷ []) [] (0 ∷ [])) 1 1 4608 Candidates 0
+    × Reports (p2 0 0 0) (candidates (1 ∷ []) (2 ∷ []) []) 1 1 4608 Candidates 0
+    × Reports (p2 0 0 0) some 4 5 4608 Candidates 0
+    × Reports (p2 0 0 0) some 5 6 4608 Candidates 0
+    × Reports (p2 0 0 0) some 4 4 4608 Candidates 0
+    × Reports (p2 0 0 0) (of (replicate 65 (row 1 2 0))) 65 65 4608 Candidates 0
+    × Reports (round 1 0 []) some 5 4 4608 Candidates 0
+    × Reports (p2 1 1 1) some 5 4 4608 Candidates 0
 unfolding reported
 lent-wrong = (refl, refl, refl, refl, refl, refl, refl, refl, refl, refl, refl, refl)

@@ -18,4 +18,4 @@ pub record Right (looked : Looked) (numbers counts space : List ℕ) (report : R
   pub reported : Reported looked report
   pub each-number : isWritten numbers «first_numbers» ≡ true
   pub each-count : isWritten counts «first_counts» ≡ true
-  pub each-byte : isWritten space (take (cleared (report .number)) (replicate 16384 0)) ≡ true
+  pub each-byte : isWritten space (take (cleared (report .number)) (replicate 4608 0)) ≡ true

@@ -307,8 +307,10 @@ fn too_few(group: Group, bytes: usize) -> Group {
 
 pub fn space() -> Group {
     let mut g = too_few(no_cases(), 0);
-    g = too_few(g, 16383);
+    g = too_few(g, 4607);
+    g = enough(g, 4608);
+    g = enough(g, 4609);
+    g = enough(g, 16383);
     g = enough(g, 16384);
-    g = enough(g, 16385);
     enough(g, 16484)
 }

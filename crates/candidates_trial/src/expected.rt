@@ -139,7 +139,7 @@ pub fn lists_number(l: Lists) -> u8 {
     if 64 < l.starts {
         return 2;
     }
-    if l.bytes < 16384 {
+    if l.bytes < 4608 {
         return 3;
     }
     if 64 < l.candidate_starts || !are_equal(l) {

@@ -48,6 +48,8 @@ fn print_calls(c: Calls) {
     let refused = c.refused;
     print_two(b"  accepted: rounds ", c.rounds, b", runs ", c.runs);
     print(b"    beside a full table ", c.full);
+    print(b"    with 4,608 bytes of working space ", c.least);
+    print(b"    with 16,383 ", c.less);
     print(b"  refused by 1 ", refused.lists);
     print(b"    by 2 ", refused.rows);
     print(b"    by 3 ", refused.space);

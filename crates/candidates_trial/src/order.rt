@@ -55,46 +55,46 @@ fn faulty(
 
 // A fault each, and all later ones with it.
 fn with_all_later(group: Group) -> Group {
-    let mut g = faulty(group, 16383, 1, 1, 11, 601, 3, 9, 3);
-    g = faulty(g, 16384, 1, 1, 11, 601, 3, 9, 16);
-    g = faulty(g, 16384, 2, 1, 11, 601, 3, 9, 4);
-    g = faulty(g, 16384, 2, 10, 11, 601, 3, 9, 5);
-    g = faulty(g, 16384, 2, 10, 0, 601, 3, 9, 14);
-    g = faulty(g, 16384, 2, 10, 0, 600, 3, 9, 6);
-    g = faulty(g, 16384, 2, 10, 0, 0, 4, 9, 7);
-    faulty(g, 16384, 2, 10, 0, 0, 4, 0, 8)
+    let mut g = faulty(group, 4607, 1, 1, 11, 601, 3, 9, 3);
+    g = faulty(g, 4608, 1, 1, 11, 601, 3, 9, 16);
+    g = faulty(g, 4608, 2, 1, 11, 601, 3, 9, 4);
+    g = faulty(g, 4608, 2, 10, 11, 601, 3, 9, 5);
+    g = faulty(g, 4608, 2, 10, 0, 601, 3, 9, 14);
+    g = faulty(g, 4608, 2, 10, 0, 600, 3, 9, 6);
+    g = faulty(g, 4608, 2, 10, 0, 0, 4, 9, 7);
+    faulty(g, 4608, 2, 10, 0, 0, 4, 0, 8)
 }
 
 // 3 and 16, each with one later fault; the rows have no plan besides.
 fn lent_and_another(group: Group) -> Group {
-    let mut g = faulty(group, 16383, 1, 10, 0, 0, 4, 0, 3);
-    g = faulty(g, 16383, 2, 1, 0, 0, 4, 0, 3);
-    g = faulty(g, 16383, 2, 10, 11, 0, 4, 0, 3);
-    g = faulty(g, 16383, 2, 10, 0, 601, 4, 0, 3);
-    g = faulty(g, 16383, 2, 10, 0, 0, 3, 0, 3);
-    g = faulty(g, 16383, 2, 10, 0, 0, 4, 0, 3);
-    g = faulty(g, 16384, 1, 1, 0, 0, 4, 0, 16);
-    g = faulty(g, 16384, 1, 10, 11, 0, 4, 0, 16);
-    g = faulty(g, 16384, 1, 10, 0, 601, 4, 0, 16);
-    g = faulty(g, 16384, 1, 10, 0, 0, 3, 0, 16);
-    g = faulty(g, 16384, 1, 10, 0, 0, 4, 9, 16);
-    faulty(g, 16384, 1, 10, 0, 0, 4, 0, 16)
+    let mut g = faulty(group, 4607, 1, 10, 0, 0, 4, 0, 3);
+    g = faulty(g, 4607, 2, 1, 0, 0, 4, 0, 3);
+    g = faulty(g, 4607, 2, 10, 11, 0, 4, 0, 3);
+    g = faulty(g, 4607, 2, 10, 0, 601, 4, 0, 3);
+    g = faulty(g, 4607, 2, 10, 0, 0, 3, 0, 3);
+    g = faulty(g, 4607, 2, 10, 0, 0, 4, 0, 3);
+    g = faulty(g, 4608, 1, 1, 0, 0, 4, 0, 16);
+    g = faulty(g, 4608, 1, 10, 11, 0, 4, 0, 16);
+    g = faulty(g, 4608, 1, 10, 0, 601, 4, 0, 16);
+    g = faulty(g, 4608, 1, 10, 0, 0, 3, 0, 16);
+    g = faulty(g, 4608, 1, 10, 0, 0, 4, 9, 16);
+    faulty(g, 4608, 1, 10, 0, 0, 4, 0, 16)
 }
 
 // 4, 5, 14, 6 and 7 likewise.
 fn table_and_another(group: Group) -> Group {
-    let mut g = faulty(group, 16384, 2, 43201, 11, 0, 4, 0, 4);
-    g = faulty(g, 16384, 2, 43201, 0, 601, 4, 0, 4);
-    g = faulty(g, 16384, 2, 43201, 0, 0, 3, 0, 4);
-    g = faulty(g, 16384, 2, 10, 11, 601, 4, 0, 5);
-    g = faulty(g, 16384, 2, 10, 11, 0, 3, 0, 5);
-    g = faulty(g, 16384, 2, 10, 11, 0, 4, 0, 5);
-    g = faulty(g, 16384, 2, 10, 0, 601, 3, 0, 14);
-    g = faulty(g, 16384, 2, 10, 0, 601, 4, 9, 14);
-    g = faulty(g, 16384, 2, 10, 0, 601, 4, 0, 14);
-    g = faulty(g, 16384, 2, 10, 0, 0, 3, 9, 6);
-    g = faulty(g, 16384, 2, 10, 0, 0, 3, 0, 6);
-    faulty(g, 16384, 2, 10, 0, 0, 4, 9, 7)
+    let mut g = faulty(group, 4608, 2, 43201, 11, 0, 4, 0, 4);
+    g = faulty(g, 4608, 2, 43201, 0, 601, 4, 0, 4);
+    g = faulty(g, 4608, 2, 43201, 0, 0, 3, 0, 4);
+    g = faulty(g, 4608, 2, 10, 11, 601, 4, 0, 5);
+    g = faulty(g, 4608, 2, 10, 11, 0, 3, 0, 5);
+    g = faulty(g, 4608, 2, 10, 11, 0, 4, 0, 5);
+    g = faulty(g, 4608, 2, 10, 0, 601, 3, 0, 14);
+    g = faulty(g, 4608, 2, 10, 0, 601, 4, 9, 14);
+    g = faulty(g, 4608, 2, 10, 0, 601, 4, 0, 14);
+    g = faulty(g, 4608, 2, 10, 0, 0, 3, 9, 6);
+    g = faulty(g, 4608, 2, 10, 0, 0, 3, 0, 6);
+    faulty(g, 4608, 2, 10, 0, 0, 4, 9, 7)
 }
 
 // The row of the lower number is reported, whichever its fault: 10 is R, and 6 no mark.
@@ -135,19 +135,19 @@ fn many(
 // 1 and 2, each with one later fault, and with several.
 fn lists(group: Group) -> Group {
     let good = round(100, 0);
-    let mut g = many(group, good, 65, 64, 16384, 2, 1);
-    g = many(g, good, 64, 65, 16384, 2, 1);
-    g = many(g, good, 3, 2, 16383, 2, 1);
-    g = many(g, good, 3, 2, 16384, 1, 1);
-    g = many(g, round(1, 0), 3, 4, 16384, 2, 1);
+    let mut g = many(group, good, 65, 64, 4608, 2, 1);
+    g = many(g, good, 64, 65, 4608, 2, 1);
+    g = many(g, good, 3, 2, 4607, 2, 1);
+    g = many(g, good, 3, 2, 4608, 1, 1);
+    g = many(g, round(1, 0), 3, 4, 4608, 2, 1);
     g = many(g, round(1, 601), 66, 65, 0, 1, 1);
-    g = many(g, good, 65, 65, 16383, 2, 2);
-    g = many(g, good, 65, 65, 16384, 1, 2);
-    g = many(g, round(1, 0), 65, 65, 16384, 2, 2);
-    g = many(g, round(100, 601), 65, 65, 16384, 2, 2);
+    g = many(g, good, 65, 65, 4607, 2, 2);
+    g = many(g, good, 65, 65, 4608, 1, 2);
+    g = many(g, round(1, 0), 65, 65, 4608, 2, 2);
+    g = many(g, round(100, 601), 65, 65, 4608, 2, 2);
     g = many(g, round(1, 601), 66, 66, 0, 1, 2);
-    g = many(g, good, 64, 64, 16383, 1, 3);
-    many(g, good, 64, 64, 16384, 1, 16)
+    g = many(g, good, 64, 64, 4607, 1, 3);
+    many(g, good, 64, 64, 4608, 1, 16)
 }
 
 // Table lists of unequal lengths: each one shorter and longer than the others.

@@ -34,6 +34,9 @@ pub struct Calls {
     pub runs: u32,
     // accepted, with a table of 64 rows
     pub full: u32,
+    // accepted, with no more working space than is needed, and with less than was needed before request 9
+    pub least: u32,
+    pub less: u32,
     pub refused: Refused,
     // a check of another kind, later in the order, would refuse it too
     pub later: u32,
@@ -92,6 +95,8 @@ pub fn no_calls() -> Calls {
         rounds: 0,
         runs: 0,
         full: 0,
+        least: 0,
+        less: 0,
         refused: none_refused(),
         later: 0,
         first_row: 0,
@@ -168,6 +173,8 @@ pub fn with_call(c: Calls, d: Drawn, report: Report) -> Calls {
         rounds: more(c.rounds, number == 0 && !table.run),
         runs: more(c.runs, number == 0 && table.run),
         full: more(c.full, number == 0 && full),
+        least: more(c.least, number == 0 && lent.bytes == 4608),
+        less: more(c.less, number == 0 && lent.bytes == 16383),
         refused: with_number(refused, number),
         later: more(c.later, has_later(d)),
         first_row: more(c.first_row, stopped && rows == 1),

@@ -241,17 +241,20 @@ fn many_rows(
     with_case(group, right)
 }
 
-// The table of 64 rows is planned; with 65 it is refused, and with unequal lists before that.
+// The table of 64 rows is planned, from 4,608 bytes as from any more (request 9); with 65 it is refused, and with unequal lists before that.
 fn rows(group: Group) -> Group {
     let mut g = many_rows(group, 64, 64, LENT_BYTES, 0, 64);
     g = many_rows(g, 63, 63, LENT_BYTES, 0, 63);
     g = many_rows(g, 65, 65, LENT_BYTES, 2, 0);
+    g = many_rows(g, 64, 64, 4608, 0, 64);
+    g = many_rows(g, 64, 64, 4609, 0, 64);
+    g = many_rows(g, 64, 64, 16383, 0, 64);
     g = many_rows(g, 64, 64, 16384, 0, 64);
-    g = many_rows(g, 64, 64, 16383, 3, 0);
-    g = many_rows(g, 0, 0, 16383, 3, 0);
+    g = many_rows(g, 64, 64, 4607, 3, 0);
+    g = many_rows(g, 0, 0, 4607, 3, 0);
     g = many_rows(g, 0, 0, 0, 3, 0);
-    g = many_rows(g, 65, 65, 16383, 2, 0);
-    many_rows(g, 65, 64, 16383, 1, 0)
+    g = many_rows(g, 65, 65, 4607, 2, 0);
+    many_rows(g, 65, 64, 4607, 1, 0)
 }
 
 // ---- lists of unequal lengths

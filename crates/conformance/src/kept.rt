@@ -72,7 +72,7 @@ fn in_hours(p: u16, gap: u16, mark: u8, number: u8, labels: &[u8]) -> bool {
 fn untouched(group: Group) -> Group {
     let mut g = with_case(group, faulty(100, 0, 0, 10, 5, LENT_BYTES, 1, &[]));
     g = with_case(g, too_many());
-    g = with_case(g, faulty(100, 0, 0, 10, 4, 16383, 3, &[]));
+    g = with_case(g, faulty(100, 0, 0, 10, 4, 4607, 3, &[]));
     g = with_case(g, faulty(43201, 0, 0, 10, 4, LENT_BYTES, 4, &[]));
     g = with_case(g, in_hours(51, 0, 0, 5, &[]));
     g = with_case(g, faulty(100, 601, 0, 10, 4, LENT_BYTES, 14, &[]));
@@ -81,14 +81,21 @@ fn untouched(group: Group) -> Group {
     with_case(g, faulty(100, 0, 6, 10, 4, LENT_BYTES, 7, &[]))
 }
 
-// A plan and refusal 8 clear the first 16,384 bytes and no others; refusal 8 leaves the labels as they were.
+// P2, and with three rows that must be heard, which is refused 8, lent so many bytes.
+fn cleared_of(group: Group, bytes: usize) -> Group {
+    let g = with_case(group, faulty(100, 0, 1, 10, 4, bytes, 8, &[]));
+    with_case(g, faulty(100, 0, 0, 10, 4, bytes, 0, &[1, 2, 0, 1]))
+}
+
+// A plan and refusal 8 clear the first 4,608 bytes and no others, however many are lent; refusal 8 leaves the labels as they were.
 fn cleared(group: Group) -> Group {
-    let mut g = with_case(group, faulty(100, 0, 1, 10, 4, LENT_BYTES, 8, &[]));
-    g = with_case(g, faulty(100, 0, 1, 10, 4, 16384, 8, &[]));
+    let mut g = cleared_of(group, LENT_BYTES);
+    g = cleared_of(g, 4608);
+    g = cleared_of(g, 4609);
+    g = cleared_of(g, 16383);
+    g = cleared_of(g, 16384);
     g = with_case(g, in_hours(0, 0, 1, 8, &[]));
     g = with_case(g, in_hours(0, 0, 5, 8, &[]));
-    g = with_case(g, faulty(100, 0, 0, 10, 4, LENT_BYTES, 0, &[1, 2, 0, 1]));
-    g = with_case(g, faulty(100, 0, 0, 10, 4, 16384, 0, &[1, 2, 0, 1]));
     with_case(g, in_hours(0, 0, 0, 0, &[1, 0]))
 }
 

@@ -68,7 +68,7 @@ fn rows_in_order(group: Group, gap: u16, mark: u8, window: u8) -> Group {
 
 // "1, 2, 3, 4, 5, then rows from 0, each for 6 and then 7, then 8", and 14 "after 5": a fault each, and the later ones with it.
 fn planner_order(group: Group) -> Group {
-    let mut g = faulty(group, 1, 11, 601, 16383, 3);
+    let mut g = faulty(group, 1, 11, 601, 4607, 3);
     g = faulty(g, 1, 11, 601, LENT_BYTES, 4);
     g = faulty(g, 10, 11, 601, LENT_BYTES, 5);
     g = faulty(g, 10, 0, 601, LENT_BYTES, 14);

@@ -2,6 +2,7 @@
 pub mod Bench
 pub mod Request5
 pub mod Sequences
+pub mod Request9
 pub mod Order
 pub mod Right
 pub mod Answering

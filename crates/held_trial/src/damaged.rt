@@ -35,10 +35,10 @@ fn both(group: Group, h: Held, number: u8) -> Group {
 fn too_many_rows(group: Group, rows: usize) -> Group {
     let h = numbers(10, 0, rows);
     let mut g = both(group, h, 2);
-    g = not_added_in(g, h, 6, 7, 0, with_space(16383), 2);
+    g = not_added_in(g, h, 6, 7, 0, with_space(4607), 2);
     g = not_withdrawn(g, h, 64, 2);
     g = not_withdrawn(g, h, rows, 15);
-    not_withdrawn_in(g, h, rows, with_space(16383), 3)
+    not_withdrawn_in(g, h, rows, with_space(4607), 3)
 }
 
 // Rows that were never added: their windows do not lie in the round.
@@ -66,8 +66,8 @@ fn rounds(group: Group) -> Group {
 fn rounds_in_order(group: Group) -> Group {
     let h = numbers(1, 601, 3);
     let mut g = not_withdrawn(group, h, 3, 15);
-    g = not_withdrawn_in(g, h, 3, with_space(16383), 3);
-    g = not_added_in(g, h, 10, 0, 6, with_space(16383), 3);
+    g = not_withdrawn_in(g, h, 3, with_space(4607), 3);
+    g = not_added_in(g, h, 10, 0, 6, with_space(4607), 3);
     g = not_added(g, h, 10, 0, 6, 4);
     not_added(g, numbers(10, 601, 3), 10, 0, 6, 14)
 }

@@ -112,12 +112,19 @@ fn too_few_bytes(group: Group, bytes: usize) -> Group {
     not_withdrawn_in(g, h, 0, with_space(bytes), 3)
 }
 
-pub fn space() -> Group {
+fn enough_bytes(group: Group, bytes: usize) -> Group {
     let h = three_rows();
+    let g = added_in(group, h, 0, 2, 0, bytes, &[1, 2, 1, 1]);
+    withdrawn_in(g, h, 0, bytes, &[1, 1])
+}
+
+pub fn space() -> Group {
     let mut g = too_few_bytes(no_cases(), 0);
-    g = too_few_bytes(g, 16383);
-    g = added_in(g, h, 0, 2, 0, 16384, &[1, 2, 1, 1]);
-    withdrawn_in(g, h, 0, 16384, &[1, 1])
+    g = too_few_bytes(g, 4607);
+    g = enough_bytes(g, 4608);
+    g = enough_bytes(g, 4609);
+    g = enough_bytes(g, 16383);
+    enough_bytes(g, 16384)
 }
 
 fn places(group: Group, starts: usize, ends: usize, marks: usize, labels: usize) -> Group {

@@ -11,7 +11,7 @@ use window::Kind;
 use window::Row;
 
 // The bytes of working space that a plan takes.
-const SPACE_BYTES: usize = 16384;
+const SPACE_BYTES: usize = 4608;
 
 // The number of the refusal, 0 for none, and what is held after the change.
 pub struct Expected {

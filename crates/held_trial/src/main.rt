@@ -54,6 +54,9 @@ fn print_tally(tally: Tally) {
     print(b"  changes ", tally.changes);
     print_additions(additions);
     print_withdrawals(withdrawals);
+    let lent = tally.lent;
+    print(b"  accepted with 4,608 bytes of working space ", lent.least);
+    print(b"    with 16,383 ", lent.less);
     print(b"  differ ", tally.differ);
 }
 

@@ -43,26 +43,26 @@ fn add(
 // 64 rows: 1 comes before 2, and 2 before the others.
 fn full_table(group: Group) -> Group {
     let h = full();
-    let mut g = add(group, h, 100, 7, 63, 16383, 1);
-    g = add(g, h, 5, 0, 63, 16384, 1);
-    g = add(g, h, 100, 7, 64, 16383, 2);
-    g = add(g, h, 5, 0, 64, 16383, 2);
-    g = add(g, h, 100, 0, 64, 16384, 2);
-    add(g, h, 5, 7, 64, 16384, 2)
+    let mut g = add(group, h, 100, 7, 63, 4607, 1);
+    g = add(g, h, 5, 0, 63, 4608, 1);
+    g = add(g, h, 100, 7, 64, 4607, 2);
+    g = add(g, h, 5, 0, 64, 4607, 2);
+    g = add(g, h, 100, 0, 64, 4608, 2);
+    add(g, h, 5, 7, 64, 4608, 2)
 }
 
 // "2, 3, 6, 7 or 8, looked at so": a fault each, and the later ones with it.
 fn additions(group: Group) -> Group {
     let h = three_rows();
-    let mut g = add(group, h, 10, 7, 63, 16383, 1);
-    g = add(g, h, 10, 7, 63, 16384, 1);
-    g = add(g, h, 10, 7, 64, 16383, 3);
-    g = add(g, h, 5, 7, 64, 16383, 3);
-    g = add(g, h, 5, 1, 64, 16383, 3);
-    g = add(g, h, 10, 7, 64, 16384, 6);
-    g = add(g, h, 10, 1, 64, 16384, 6);
-    g = add(g, h, 5, 7, 64, 16384, 7);
-    add(g, h, 5, 1, 64, 16384, 8)
+    let mut g = add(group, h, 10, 7, 63, 4607, 1);
+    g = add(g, h, 10, 7, 63, 4608, 1);
+    g = add(g, h, 10, 7, 64, 4607, 3);
+    g = add(g, h, 5, 7, 64, 4607, 3);
+    g = add(g, h, 5, 1, 64, 4607, 3);
+    g = add(g, h, 10, 7, 64, 4608, 6);
+    g = add(g, h, 10, 1, 64, 4608, 6);
+    g = add(g, h, 5, 7, 64, 4608, 7);
+    add(g, h, 5, 1, 64, 4608, 8)
 }
 
 fn withdraw(group: Group, h: Held, k: usize, labels: usize, bytes: usize, number: u8) -> Group {
@@ -72,11 +72,11 @@ fn withdraw(group: Group, h: Held, k: usize, labels: usize, bytes: usize, number
 // "15 .. looked at after 3 and last"
 fn withdrawals(group: Group) -> Group {
     let h = three_rows();
-    let mut g = withdraw(group, h, 3, 63, 16383, 1);
-    g = withdraw(g, h, 3, 63, 16384, 1);
-    g = withdraw(g, h, 0, 63, 16383, 1);
-    g = withdraw(g, h, 3, 64, 16383, 3);
-    withdraw(g, h, 3, 64, 16384, 15)
+    let mut g = withdraw(group, h, 3, 63, 4607, 1);
+    g = withdraw(g, h, 3, 63, 4608, 1);
+    g = withdraw(g, h, 0, 63, 4607, 1);
+    g = withdraw(g, h, 3, 64, 4607, 3);
+    withdraw(g, h, 3, 64, 4608, 15)
 }
 
 pub fn all() -> Group {

@@ -5,6 +5,7 @@ use crate::expected;
 use crate::kept;
 use crate::tally;
 use crate::tally::Additions;
+use crate::tally::Lent;
 use crate::tally::Withdrawals;
 use held_calls::Change;
 use held_calls::Held;
@@ -21,6 +22,7 @@ pub struct Tally {
     pub changes: u32,
     pub additions: Additions,
     pub withdrawals: Withdrawals,
+    pub lent: Lent,
     pub differ: u32,
     state: u64,
 }
@@ -38,6 +40,7 @@ fn counted(
     number: u8,
     before: Held,
     after: Held,
+    lent: Lent,
     right: bool,
     state: u64,
 ) -> Tally {
@@ -50,6 +53,7 @@ fn counted(
             changes,
             additions: tally::with_addition(additions, number, before, after, row),
             withdrawals,
+            lent,
             differ,
             state,
         },
@@ -57,6 +61,7 @@ fn counted(
             changes,
             additions,
             withdrawals: tally::with_withdrawal(withdrawals, number, before, after, k),
+            lent,
             differ,
             state,
         },
@@ -75,9 +80,11 @@ fn with_change(s: Sequence, round: Round, grows: bool) -> Sequence {
     let number = expected.number;
     let after = expected.held;
     let right = is_changed(held, change, with_space(bytes), number, after);
+    let so_far = tally.lent;
+    let lent = tally::with_bytes(so_far, number, bytes);
     Sequence {
         held: after,
-        tally: counted(tally, change, number, held, after, right, drawn.state),
+        tally: counted(tally, change, number, held, after, lent, right, drawn.state),
     }
 }
 
@@ -139,6 +146,7 @@ pub fn all(sequences: u32, brute: bool) -> Tally {
         changes: 0,
         additions: tally::no_additions(),
         withdrawals: tally::no_withdrawals(),
+        lent: tally::none_lent(),
         differ: 0,
         state: 271,
     };

@@ -43,6 +43,24 @@ pub struct Withdrawals {
     pub both: u32,
 }
 
+// Accepted changes that were lent no more working space than they need, or less than they needed before request 9.
+pub struct Lent {
+    pub least: u32,
+    pub less: u32,
+}
+
+pub fn none_lent() -> Lent {
+    Lent { least: 0, less: 0 }
+}
+
+pub fn with_bytes(l: Lent, number: u8, bytes: usize) -> Lent {
+    let accepted = number == 0;
+    Lent {
+        least: more(l.least, accepted && bytes == 4608),
+        less: more(l.less, accepted && bytes == 16383),
+    }
+}
+
 fn none_refused() -> Refused {
     Refused {
         rows: 0,

@@ -50,8 +50,15 @@ fn labelled(found: Found, rows: usize) -> usize {
     if found.answer == 0 { 0 } else { rows }
 }
 
-// The planner's answer, whole, is what the brute force finds.
+// The planner's answer, whole, is what the brute force finds: from as many bytes of working space as it needs and from more.
 fn is_found(t: Table, found: Found) -> bool {
+    if !is_found_in(t, found, 4608) {
+        return false;
+    }
+    is_found_in(t, found, LENT_BYTES)
+}
+
+fn is_found_in(t: Table, found: Found, bytes: usize) -> bool {
     let n = t.rows;
     let starts = t.starts;
     let ends = t.ends;
@@ -67,7 +74,7 @@ fn is_found(t: Table, found: Found) -> bool {
         first_words(&ends, n),
         first_bytes(&marks, n),
         n,
-        LENT_BYTES,
+        bytes,
         number(found),
         first_bytes(&labels, labelled(found, n)),
     )

@@ -96,7 +96,10 @@ fn print_heard(tally: Tally) {
 
 fn main() {
     let tally = compared::tables();
-    print(b"random tables: ", compared::TABLES);
+    print(
+        b"random tables, each with 4,608 and with 16,484 bytes of working space: ",
+        compared::TABLES,
+    );
     print(b"  no plan ", tally.none);
     print(b"  the hours changed the answer ", tally.hours);
     print_heard(tally);

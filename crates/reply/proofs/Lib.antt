@@ -2,3 +2,4 @@
 pub mod Putting
 pub mod Replying
 pub mod Session
+pub mod Request9

@@ -18,7 +18,7 @@ lines =
     ∷ 50 ∷ 32 ∷ 48 ∷ 10
     ∷ 51 ∷ 32 ∷ 49 ∷ 10 ∷ []
 
-pub session-printed : printed (tapeAnswer session 16384) ≡ lines
+pub session-printed : printed (tapeAnswer session 4608) ≡ lines
 unfolding printed tapeAnswer
 session-printed = refl
 

@@ -1,6 +1,7 @@
 // Replies to fleet tapes: paper 01's session, rows for one receiver only, rows that send all day, touching rows, refusals, and tapes of up to 400 bytes and of more.
 use trial_calls::BEFORE;
 use trial_calls::LENT_BYTES;
+use trial_calls::at_most;
 use trial_calls::first_bytes;
 use trial_calls::is_left;
 use trial_calls::is_written;
@@ -8,11 +9,17 @@ use trial_report::Group;
 use trial_report::no_cases;
 use trial_report::with_case;
 
-// Whether the reply to a fleet tape is the text, and the working space is as a call of the planner with that number leaves it.
-fn is_replied(tape: &[u8], number: u8, text: &[u8]) -> bool {
+// The length of the reply if it is lent so many of the bytes of working space.
+fn reply_in(tape: &[u8], out: &mut [u8], space: &mut [u8], bytes: usize) -> usize {
+    let m = at_most(bytes, space.len());
+    reply::reply(tape, out, &mut space[..m])
+}
+
+// Whether the reply to a fleet tape, lent so many bytes of working space, is the text, and the working space is as a call of the planner with that number leaves it.
+fn is_replied_in(tape: &[u8], bytes: usize, number: u8, text: &[u8]) -> bool {
     let mut out = [BEFORE; 410];
     let mut space = [BEFORE; LENT_BYTES];
-    let n = reply::reply(tape, &mut out, &mut space);
+    let n = reply_in(tape, &mut out, &mut space, bytes);
     if n != text.len() {
         return false;
     }
@@ -20,6 +27,11 @@ fn is_replied(tape: &[u8], number: u8, text: &[u8]) -> bool {
         return false;
     }
     is_left(&space, number)
+}
+
+// The same with all of it.
+fn is_replied(tape: &[u8], number: u8, text: &[u8]) -> bool {
+    is_replied_in(tape, LENT_BYTES, number, text)
 }
 
 // The session's windows, 10–30, 20–40, 25–50 and 90–10 in a round of 100 ticks, with these commands. The first three overlap each other, and the
@@ -266,6 +278,50 @@ fn touching(group: Group) -> Group {
     with_case(with_case(g, touching_round(20)), touching_run())
 }
 
+// A round of 10 ticks with the row 4–5 three times, lent so many bytes of working space.
+fn lent(group: Group, command: u8, bytes: usize, number: u8, text: &[u8]) -> Group {
+    let tape = [
+        0x10,
+        0x00,
+        0x0A,
+        command,
+        0x00,
+        0x04,
+        0x00,
+        0x05,
+        command,
+        0x00,
+        0x04,
+        0x00,
+        0x05,
+        command,
+        0x00,
+        0x04,
+        0x00,
+        0x05,
+        0x7F,
+    ];
+    with_case(group, is_replied_in(&tape, bytes, number, text))
+}
+
+// Rows that may be heard, and rows that must be, of which there is no plan.
+fn lent_enough(group: Group, bytes: usize) -> Group {
+    let g = lent(group, 0x40, bytes, 0, b"heard 2\n0 1\n1 2\n2 0\n");
+    lent(g, 0x41, bytes, 8, b"refused 8\n")
+}
+
+// "refusal 3 now begins below 4,608" (request 9); a tape that is not of the form is refused before that.
+fn working_space(group: Group) -> Group {
+    let mut g = lent(group, 0x40, 0, 3, b"refused 3\n");
+    g = lent(g, 0x40, 4607, 3, b"refused 3\n");
+    g = lent(g, 0x41, 4607, 3, b"refused 3\n");
+    g = lent(g, 0x46, 4607, 11, b"refused 11\n");
+    g = lent_enough(g, 4608);
+    g = lent_enough(g, 4609);
+    g = lent_enough(g, 16383);
+    lent_enough(g, 16384)
+}
+
 // A tape that is not of the form.
 fn broken(group: Group, tape: &[u8]) -> Group {
     with_case(group, is_replied(tape, 11, b"refused 11\n"))
@@ -351,6 +407,7 @@ pub fn all() -> Group {
     g = one_receiver(g);
     g = all_day(g);
     g = touching(g);
+    g = working_space(g);
     g = not_of_the_form(g);
     g = long_rounds(g);
     long_runs(g)

@@ -218,10 +218,10 @@ cases =
     ∷ round-20 601 p12 (refused Gap p12)
     ∷ []
 
--- each call gives what stands in the table, with 16,384 bytes of working space
+-- each call gives what stands in the table, with 4,608 bytes of working space
 abbrev pub Holds : List Case → Type 0
 Holds [] = Unit {0}
-Holds (c ∷ cs) = (planned (c .lent) (c .before) 16384 ≡ c .gives) × Holds cs
+Holds (c ∷ cs) = (planned (c .lent) (c .before) 4608 ≡ c .gives) × Holds cs
 
 pub bench : Holds cases
 unfolding planned cases on round run plan refused nines p2 p5 p9-hours p9 p12 middle last equal closed-1 alone all-day pairs two on-1 round-20 run-100 touching sides far both-ends

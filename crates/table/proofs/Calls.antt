@@ -82,17 +82,24 @@ planned-answer t before space = go (passes (checked t before space)) (bestPlan t
     go true (some plan) = refl
     go false o = refl
 
-pub answer-anyhow : (t : Table) (before before′ : List ℕ) (space space′ : ℕ) → length before ≡ length before′ → spaceBytes ≤ space → spaceBytes ≤ space′ → planned t before space .answer ≡ planned t before′ space′ .answer
-unfolding checked spaceRefusal
-answer-anyhow t before before′ space space′ l a b =
-    planned-answer t before space
-    ∙ ap (λ r. cond (passes r) (given (bestPlan t) [] .answer) (answered r 0)) checks
-    ∙ sym (planned-answer t before′ space′)
-  where
-    checks : checked t before space ≡ checked t before′ space′
-    checks =
-        rw (le-leb spaceBytes space a, le-leb spaceBytes space′ b)
-        (ap (λ n. lengthsRefusal (rows t) (length (t .ends)) (length (t .marks)) n then tableLooked t .refusal) l)
+module _ (t : Table) (before before′ : List ℕ) (space space′ : ℕ) (l : length before ≡ length before′) (a : spaceBytes ≤ space) (b : spaceBytes ≤ space′) where
+  pub checked-anyhow : checked t before space ≡ checked t before′ space′
+  unfolding checked spaceRefusal
+  checked-anyhow =
+      rw (le-leb spaceBytes space a, le-leb spaceBytes space′ b)
+      (ap (λ n. lengthsRefusal (rows t) (length (t .ends)) (length (t .marks)) n then tableLooked t .refusal) l)
+
+  pub answer-anyhow : planned t before space .answer ≡ planned t before′ space′ .answer
+  answer-anyhow =
+      planned-answer t before space
+      ∙ ap (λ r. cond (passes r) (given (bestPlan t) [] .answer) (answered r 0)) checked-anyhow
+      ∙ sym (planned-answer t before′ space′)
+
+-- of the same label list, and the labels too
+pub planned-anyhow : (t : Table) (before : List ℕ) (space space′ : ℕ) → spaceBytes ≤ space → spaceBytes ≤ space′ → planned t before space ≡ planned t before space′
+unfolding planned
+planned-anyhow t before space space′ a b =
+    ap (λ r. cond (passes r) (given (bestPlan t) before) (answering (answered r 0) before)) (checked-anyhow t before before space space′ refl a b)
 
 -- ---- the lists, then the working space, then the rest
 

@@ -1,6 +1,6 @@
--- A call that passes all checks before 8 has a valid table, and no check before 8 gives 8.
+-- A call that passes all checks before 8 has a valid table; which refusals the checks can give, and that none before 8 gives 8.
 use Prim.Native.Nat.{ℕ, zero, suc, _+_, _≤_, _<_}
-use mathlib.Core.Path.{_≡_, refl, _∙_}
+use mathlib.Core.Path.{_≡_, refl, sym, _∙_}
 use mathlib.Core.Logic.{_≢_, ⊎-elim}
 use mathlib.Core.Bool.{Bool, true, false, cond, _&&_}
 use mathlib.Core.List.{List}
@@ -18,7 +18,7 @@ use Rattle.window.specs.Windows.{isWindow}
 use Rattle.window.specs.Gaps.{maxGap}
 use Rattle.window.proofs.Meaning.{window-iff}
 use Rattle.refusals.specs.declared.Refusal.{Refusal}
-use Rattle.refusals.specs.declared.Refusal.the-variants.{Lists, Rows, Space, Ticks, Gap, Window, Mark}
+use Rattle.refusals.specs.declared.Refusal.the-variants.{Accepted, Lists, Rows, Space, Ticks, Hours, Gap, Window, Mark}
 use Rattle.refusals.specs.Refusals.{numberOf, asked, passes, _then_}
 use Rattle.refusals.proofs.Refusals.{Passed, then-passed, asked-passed, then-either, asked-either}
 use Rattle.table.specs.declared.Setting.{Setting}
@@ -131,51 +131,87 @@ module _ (t : Table) where
       let l = lists-passed t labels (f .0) in
       (table-passed (then-passed (spaceRefusal space) (tableLooked t .refusal) (f .1) .1) (l .1), l .0 .2)
 
--- ---- no check before 8 gives 8
+-- ---- what the checks of a table can give
 
-pub record Not8 (r : Refusal) : Type 0 where
-  pub not : numberOf r ≢ 8
+-- what holds of a table that passes, and of each refusal that its checks can give
+pub record OfChecks (P : Refusal → Type 0) : Type 0 where
+  pub accepted : P Accepted
+  pub lists : P Lists
+  pub ticks : P Ticks
+  pub hours : P Hours
+  pub gap : P Gap
+  pub window : P Window
+  pub mark : P Mark
+
+-- holds of what they give
+module _ (P : Refusal → Type 0) (of : OfChecks P) where
+  asks : (x : Bool) {r : Refusal} → P r → P (asked x r)
+  asks x = asked-either P x (of .accepted)
+
+  cond-looked : (x : Bool) (a b : Looked) → P (a .refusal) → P (b .refusal) → P (cond x a b .refusal)
+  cond-looked true a b f g = f
+  cond-looked false a b f g = g
+
+  look-gives : (check : ℕ → Refusal) → ((i : ℕ) → P (check i)) → (i n : ℕ) → P (lookFrom check i n .refusal)
+  unfolding lookFrom
+  look-gives check h i zero = of .accepted
+  look-gives check h i (suc n) = cond-looked (passes (check i)) _ _ (look-gives check h (i + 1) n) (h i)
+
+  hours-give : (kind : Kind) (R : ℕ) (hours : List (List ℕ)) → P (hoursRefusal kind R hours)
+  unfolding hoursRefusal
+  hours-give Round R hours = of .accepted
+  hours-give Run R hours = asks (isHours hours R 0 && isHours hours R 1) (of .hours)
+
+  setting-gives : (S : Setting) → P (settingRefusal S)
+  unfolding settingRefusal ticksRefusal gapRefusal
+  setting-gives S =
+      then-either P (asks (leb 2 (S .ticks) && leb (S .ticks) 43200) (of .ticks))
+      (then-either P (hours-give (S .kind) (S .ticks) (S .hours)) (asks (leb (S .gap) maxGap) (of .gap)))
+
+  row-gives : (S : Setting) (row : Row) → P (rowRefusal S row)
+  unfolding rowRefusal
+  row-gives S row = then-either P (asks (isWindow (S .kind) (S .ticks) (row .start) (row .end)) (of .window)) (asks (leb (row .mark) maxMark) (of .mark))
+
+  rows-give : (t : Table) → P (rowsLooked t .refusal)
+  unfolding rowsLooked
+  rows-give t = cond-looked (isEven t) _ (looked Lists 0) (look-gives (rowCheck t) (λ i. row-gives (t .setting) (rowAt t i)) 0 (rows t)) (of .lists)
+
+  pub table-gives : (t : Table) → P (tableLooked t .refusal)
+  unfolding tableLooked
+  table-gives t = cond-looked (passes (settingRefusal (t .setting))) (rowsLooked t) (looked (settingRefusal (t .setting)) 0) (rows-give t) (setting-gives (t .setting))
+
+-- ---- no check before 8 gives 8, and none of the table's gives 3
+
+-- a refusal of another number
+pub record Not (n : ℕ) (r : Refusal) : Type 0 where
+  pub not : numberOf r ≢ n
+
+abbrev pub Not8 : Refusal → Type 0
+Not8 = Not 8
 
 -- the check refuses so, where it refuses
 pub asked-8 : (x : Bool) {r : Refusal} → Not8 r → Not8 (asked x r)
 asked-8 x = asked-either Not8 x (record { not = λ e. omega arith })
 
-cond-8 : (x : Bool) (a b : Looked) → Not8 (a .refusal) → Not8 (b .refusal) → Not8 (cond x a b .refusal)
-cond-8 true a b f g = f
-cond-8 false a b f g = g
-
-look-8 : (check : ℕ → Refusal) → ((i : ℕ) → Not8 (check i)) → (i n : ℕ) → Not8 (lookFrom check i n .refusal)
-unfolding lookFrom
-look-8 check h i zero = record { not = λ e. omega arith }
-look-8 check h i (suc n) = cond-8 (passes (check i)) _ _ (look-8 check h (i + 1) n) (h i)
-
-hours-8 : (kind : Kind) (R : ℕ) (hours : List (List ℕ)) → Not8 (hoursRefusal kind R hours)
-unfolding hoursRefusal
-hours-8 Round R hours = record { not = λ e. omega arith }
-hours-8 Run R hours = asked-8 (isHours hours R 0 && isHours hours R 1) (record { not = λ e. omega arith })
-
-setting-8 : (S : Setting) → Not8 (settingRefusal S)
-unfolding settingRefusal ticksRefusal gapRefusal
-setting-8 S =
-    then-either Not8
-    (asked-8 (leb 2 (S .ticks) && leb (S .ticks) 43200) {r = Ticks} (record { not = λ e. omega arith }))
-    (then-either Not8 (hours-8 (S .kind) (S .ticks) (S .hours)) (asked-8 (leb (S .gap) maxGap) {r = Gap} (record { not = λ e. omega arith })))
-
-row-8 : (S : Setting) (row : Row) → Not8 (rowRefusal S row)
-unfolding rowRefusal
-row-8 S row =
-    then-either Not8
-    (asked-8 (isWindow (S .kind) (S .ticks) (row .start) (row .end)) {r = Window} (record { not = λ e. omega arith }))
-    (asked-8 (leb (row .mark) maxMark) {r = Mark} (record { not = λ e. omega arith }))
+-- no check of a table gives a number that is none of these
+not-given : (n : ℕ) → n ≢ 0 → n ≢ 1 → n ≢ 4 → n ≢ 5 → n ≢ 14 → n ≢ 6 → n ≢ 7 → OfChecks (Not n)
+not-given n accepted lists ticks hours gap window mark =
+    record {
+      accepted = record { not = λ e. accepted (sym e) };
+      lists = record { not = λ e. lists (sym e) };
+      ticks = record { not = λ e. ticks (sym e) };
+      hours = record { not = λ e. hours (sym e) };
+      gap = record { not = λ e. gap (sym e) };
+      window = record { not = λ e. window (sym e) };
+      mark = record { not = λ e. mark (sym e) };
+    }
 
 module _ (t : Table) where
-  rows-8 : Not8 (rowsLooked t .refusal)
-  unfolding rowsLooked
-  rows-8 = cond-8 (isEven t) _ (looked Lists 0) (look-8 (rowCheck t) (λ i. row-8 (t .setting) (rowAt t i)) 0 (rows t)) (record { not = λ e. omega arith })
+  pub table-3 : Not 3 (tableLooked t .refusal)
+  table-3 = table-gives (Not 3) (not-given 3 (λ e. omega arith) (λ e. omega arith) (λ e. omega arith) (λ e. omega arith) (λ e. omega arith) (λ e. omega arith) (λ e. omega arith)) t
 
   pub table-8 : Not8 (tableLooked t .refusal)
-  unfolding tableLooked
-  table-8 = cond-8 (passes (settingRefusal (t .setting))) (rowsLooked t) (looked (settingRefusal (t .setting)) 0) rows-8 (setting-8 (t .setting))
+  table-8 = table-gives Not8 (not-given 8 (λ e. omega arith) (λ e. omega arith) (λ e. omega arith) (λ e. omega arith) (λ e. omega arith) (λ e. omega arith) (λ e. omega arith)) t
 
   pub lists-8 : (labels : List ℕ) → Not8 (listsRefusal t labels)
   unfolding lengthsRefusal

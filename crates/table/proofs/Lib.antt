@@ -10,6 +10,7 @@ pub mod Former
 pub mod Request2
 pub mod Request3
 pub mod Request4
+pub mod Request9
 pub mod Calls
 pub mod Passing
 pub mod Changes

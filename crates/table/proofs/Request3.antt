@@ -90,7 +90,7 @@ three t before space p n f = planned-passed t before space p ∙ ap (λ o. given
     valid = checked-valid t before space p .0
 
     shown : Valid example
-    shown = checked-valid example (0 ∷ 0 ∷ 0 ∷ []) 16384 refl .0
+    shown = checked-valid example (0 ∷ 0 ∷ 0 ∷ []) 4608 refl .0
 
     zeros : (i : ℕ) → (rowAt example i .start ≡ 0) × (rowAt example i .end ≡ 0) × (rowAt example i .mark ≡ 0)
     zeros zero = (refl, refl, refl)

@@ -73,10 +73,10 @@ alone t before space p round n = go (rowAt t 0 .mark) refl
     valid : Valid t
     valid = checked-valid t before space p .0
 
-    as-example : (mark : ℕ) → rowAt t 0 .mark ≡ mark → Passed (checked (example mark) (0 ∷ []) 16384) → planned t before space ≡ given (bestPlan (example mark)) before
+    as-example : (mark : ℕ) → rowAt t 0 .mark ≡ mark → Passed (checked (example mark) (0 ∷ []) 4608) → planned t before space ≡ given (bestPlan (example mark)) before
     as-example mark e q =
         planned-passed t before space p
-        ∙ ap (λ o. given o before) (same-best t (example mark) valid (checked-valid (example mark) (0 ∷ []) 16384 q .0) n mays (λ i j h l d. absurd (d (omega arith))))
+        ∙ ap (λ o. given o before) (same-best t (example mark) valid (checked-valid (example mark) (0 ∷ []) 4608 q .0) n mays (λ i j h l d. absurd (d (omega arith))))
       where
         mays : (i x : ℕ) → i < rows t → Allowed (t .setting) (rowAt t i) x ↔ Allowed (example mark .setting) (rowAt (example mark) i) x
         mays zero x h = (

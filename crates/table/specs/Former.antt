@@ -3,6 +3,7 @@
 use Prim.Native.Nat.{ℕ, zero, suc, _≤_, _<_}
 use mathlib.Core.Path.{_≡_}
 use mathlib.Core.Logic.{_≢_}
+use mathlib.Core.Bool.{cond}
 use mathlib.Core.List.{List}
 use mathlib.Core.Option.{none, some}
 use lib.Dec.{leb}
@@ -15,17 +16,40 @@ use Rattle.window.specs.Windows.{Overlap}
 use Rattle.window.specs.Former.{OverlapBefore3, isWindowBefore3}
 use Rattle.marks.specs.Marks.{maxMark}
 use Rattle.refusals.specs.declared.Refusal.{Refusal}
-use Rattle.refusals.specs.declared.Refusal.the-variants.{Window, Mark}
-use Rattle.refusals.specs.Refusals.{asked, _then_}
+use Rattle.refusals.specs.declared.Refusal.the-variants.{Space, Window, Mark}
+use Rattle.refusals.specs.Refusals.{answered, asked, passes, _then_}
 use Rattle.table.specs.declared.Setting.{Setting}
 use Rattle.table.specs.Tables.{Table, rows, rowAt, Allowed}
-use Rattle.table.specs.Checks.{ticksRefusal, hoursRefusal}
-use Rattle.table.specs.Planned.{Planned, given}
+use Rattle.table.specs.Checks.{lengthsRefusal, listsRefusal, ticksRefusal, hoursRefusal, tableLooked}
+use Rattle.table.specs.Planned.{bestPlan, Planned, answering, given}
 
 -- What a call gives that passes all checks before 8, for a table whose plans are C: the best of them, or refusal 8 where there is none.
 pub record PlannedBy (C : List ℕ → Type 0) (before : List ℕ) (gave : Planned) : Type 0 where
   pub best : (labels : List ℕ) → Best C labels → gave ≡ given (some labels) before
   pub none : ((rival : List ℕ) → C rival → ⊥) → gave ≡ given none before
+
+-- ---- before request 9: 16,384 bytes of working space
+
+-- the working space that the planner needed and cleared, in bytes
+abbrev pub spaceBytesBefore9 : ℕ
+spaceBytesBefore9 = 16384
+
+-- "3: working space shorter than 16,384 bytes"
+unfoldable pub spaceRefusalBefore9 : ℕ → Refusal
+spaceRefusalBefore9 n = asked (leb spaceBytesBefore9 n) Space
+
+-- "Planner's order: 1, 2, 3, 4, 5, then rows from 0, each for 6 and then 7", with 14 "after 5": request 9 replaced check 3 alone
+unfoldable pub checkedBefore9 : Table → List ℕ → ℕ → Refusal
+unfolding lengthsRefusal spaceRefusalBefore9 tableLooked
+checkedBefore9 t labels space = listsRefusal t labels then spaceRefusalBefore9 space then tableLooked t .refusal
+
+-- The planner's answer for a table, a label list that held `before`, and working space of so many bytes.
+unfoldable pub plannedBefore9 : Table → List ℕ → ℕ → Planned
+unfolding checkedBefore9 bestPlan given
+plannedBefore9 t before space =
+    cond (passes (checkedBefore9 t before space))
+    (given (bestPlan t) before)
+    (answering (answered (checkedBefore9 t before space) 0) before)
 
 -- ---- before request 4: a gap of 0
 

@@ -15,11 +15,11 @@ use Rattle.refusals.specs.Refusals.{numberOf, answered, asked, passes, _then_}
 use Rattle.table.specs.Tables.{Table, rows, Plan, isPlan}
 use Rattle.table.specs.Checks.{lengthsRefusal, listsRefusal, tableLooked}
 
--- the working space that the planner needs and clears, in bytes
+-- the working space that the planner needs and clears, in bytes: "The next hub board lends 4,608 bytes" (request 9 of paper 02)
 abbrev pub spaceBytes : ℕ
-spaceBytes = 16384
+spaceBytes = 4608
 
--- "3: working space shorter than 16,384 bytes"
+-- "refusal 3 now begins below 4,608" (request 9 of paper 02)
 unfoldable pub spaceRefusal : ℕ → Refusal
 spaceRefusal n = asked (leb spaceBytes n) Space
 
@@ -59,7 +59,7 @@ planned t before space =
     (given (bestPlan t) before)
     (answering (answered (checked t before space) 0) before)
 
--- What the working space holds after a call with this refusal: an accepted call "clears to zero the first 16,384 bytes"; "Bytes beyond are untouched"; "8 clears the same 16,384 bytes"; otherwise it is untouched.
+-- What the working space holds after a call with this refusal: an accepted call "clears to zero the first" bytes of it, "Bytes beyond are untouched", "8 clears the same", and otherwise it is untouched; "only those bytes are cleared", the 4,608 (request 9 of paper 02).
 unfoldable pub spaceAfter : Refusal → List ℕ → List ℕ
 spaceAfter r space = cond (passes r || eqb (numberOf r) 8) (replicate spaceBytes 0 ++ drop spaceBytes space) space
 

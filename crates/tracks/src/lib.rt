@@ -184,8 +184,7 @@ fn solve_lent(
     best
 }
 
-// The same, with the arrays that it needs: 128 bytes, the sum of all arrays that functions of this crate hold. With the 320 bytes that the planner lends
-// (two `[u16; 64]` and one `[u8; 64]`) that is 448 of at most 512.
+// The same, with the arrays that it needs, which are in the account of docs/MEMORY.md.
 fn solve(
     circle: u16,
     starts: &mut [u16],

@@ -18,4 +18,4 @@ isWritten list first = every (length list) (λ i. eqb (at list i) (writtenAt fir
 
 -- so many bytes of the working space are cleared by a call with this number: an accepted one, and 8
 abbrev pub cleared : ℕ → ℕ
-cleared number = cond (eqb number 0) 16384 (cond (eqb number 8) 16384 0)
+cleared number = cond (eqb number 0) 4608 (cond (eqb number 8) 4608 0)

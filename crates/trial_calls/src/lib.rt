@@ -10,7 +10,7 @@ use window::Kind;
 // What labels, working space and tape buffer hold before a call.
 pub const BEFORE: u8 = 90;
 
-// The working space that a case is lent, if it does not say otherwise: 100 bytes more than the planner needs.
+// The working space that a case is lent, if it does not say otherwise: 100 bytes more than the 16,384 that were cleared before request 9, so that a call which clears those is seen.
 pub const LENT_BYTES: usize = 16484;
 
 pub fn at_most(n: usize, most: usize) -> usize
@@ -73,17 +73,17 @@ fn cleared(number: u8) -> usize
     ensures { λ r. ⌜ r ≡ cleared number ⌝ }
 {
     match number {
-        0 => 16384,
-        8 => 16384,
+        0 => 4608,
+        8 => 4608,
         _ => 0,
     }
 }
 
 // Whether the working space is as a call with that number is to leave it.
 pub fn is_left(space: &[u8], number: u8) -> bool
-    ensures { λ r. ⌜ r ≡ isWritten (now (space .entry)) (take (cleared number) (replicate 16384 0)) ⌝ }
+    ensures { λ r. ⌜ r ≡ isWritten (now (space .entry)) (take (cleared number) (replicate 4608 0)) ⌝ }
 {
-    let zeros = [0u8; 16384];
+    let zeros = [0u8; 4608];
     is_written(space, first_bytes(&zeros, cleared(number)))
 }
 

@@ -2,14 +2,14 @@
 
 use super::papers::candidates::{must, with, Given, Lent, RIGHT};
 use super::papers::{heard, misread, plan_by_trying, RULES};
-use super::{damage, numbers, random_setting, random_table, table_of, OneIn};
+use super::{damage, numbers, random_setting, random_table, spaces, table_of, OneIn};
 use hubplan::candidates::{try_lists, try_rows, Answer, Candidates};
 use hubplan::held::Row;
 use hubplan::tables::{Planner, Sequence, Table};
 use hubplan::{port, Kind, Refusal, MAX_CANDIDATES, MAX_ROWS, SPACE_BYTES};
 
 /// A table, candidates and enough working space; the lists of answers hold anything.
-fn lend(table: Table, candidates: &[Row]) -> Lent {
+pub fn lend(table: Table, candidates: &[Row]) -> Lent {
     let places = 0..candidates.len() as u8;
     Lent {
         table,
@@ -22,20 +22,9 @@ fn lend(table: Table, candidates: &[Row]) -> Lent {
     }
 }
 
-/// The working space before a call, and after it.
-fn spaces(space: usize, refusal: u8) -> (Vec<u8>, Vec<u8>) {
-    let before: Vec<u8> = (0..space).map(|i| 1 + (i % 251) as u8).collect();
-    let mut after = before.clone();
-    if refusal == 0 || refusal == 8 {
-        after[..SPACE_BYTES].fill(0);
-    }
-    (before, after)
-}
-
-/// Tries the candidates and compares the report, every place of the answers and every byte of the working space; gives the refusal's number.
-fn compare(lent: &Lent, right: &Given) -> u8 {
+/// What the library gives for a call, in this working space.
+pub fn library(lent: &Lent, space: &mut [u8]) -> Given {
     let table = &lent.table;
-    let (mut space, after) = spaces(lent.space, right.refusal);
     let (mut numbers, mut counts) = (lent.numbers.clone(), lent.counts.clone());
     let candidates = Candidates {
         starts: &lent.starts,
@@ -52,15 +41,20 @@ fn compare(lent: &Lent, right: &Given) -> u8 {
         candidates,
         &mut numbers,
         &mut counts,
-        &mut space,
+        space,
     );
-    let given = Given {
+    Given {
         refusal: tried.refusal.map_or(0, Refusal::number),
         rows: tried.rows,
         numbers,
         counts,
-    };
-    assert_eq!(given, *right, "{lent:?}");
+    }
+}
+
+/// Tries the candidates and compares the report, every place of the answers and every byte of the working space; gives the refusal's number.
+fn compare(lent: &Lent, right: &Given) -> u8 {
+    let (mut space, after) = spaces(lent.space, right.refusal);
+    assert_eq!(library(lent, &mut space), *right, "{lent:?}");
     assert!(space == after, "working space, {lent:?}");
     let candidates = lent.candidates();
     if lent.ends.len() == candidates && lent.marks.len() == candidates && lent.counts.len() == lent.numbers.len() {
@@ -265,7 +259,7 @@ fn damage_lists(sequence: &mut Sequence, lent: &mut Lent) {
 }
 
 /// A call with faults in the table, in the lists and in the working space, of which the first that applies is reported.
-fn damaged(sequence: &mut Sequence) -> Lent {
+pub fn damaged(sequence: &mut Sequence) -> Lent {
     let (rows, candidates) = (sequence.within(0, 12) as usize, sequence.within(0, 4) as usize);
     let table = random_setting(sequence, rows);
     let mut lent = random_lent(sequence, table, candidates);

@@ -2,13 +2,13 @@
 
 use super::papers::held::{begin, Change, Held, Lent, Reported, RIGHT};
 use super::papers::misread;
-use super::{numbers, random_gap, OneIn};
+use super::{numbers, random_gap, spaces, OneIn};
 use hubplan::held::{self, HeldTable, Numbers, Row};
 use hubplan::tables::{Sequence, Table};
 use hubplan::{Refusal, MAX_ROWS, SPACE_BYTES};
 
 /// The lists of a table that was just begun, which hold anything.
-fn begun(held: &Held) -> Lent {
+pub fn begun(held: &Held) -> Lent {
     let places = 0..MAX_ROWS as u16;
     Lent {
         numbers: Numbers {
@@ -24,11 +24,8 @@ fn begun(held: &Held) -> Lent {
     }
 }
 
-/// Makes a call and compares what it gives, the numbers, every place of the lists and every byte of the working space; gives the refusal's number.
-fn compare(lent: &mut Lent, change: Change, space: usize, right: &(Reported, Lent)) -> u8 {
-    let before = lent.clone();
-    let mut given_space: Vec<u8> = (0..space).map(|i| 1 + (i % 251) as u8).collect();
-    let mut right_space = given_space.clone();
+/// What the library reports for a call, which changes what is lent.
+pub fn library(lent: &mut Lent, change: Change, space: &mut [u8]) -> Reported {
     let Lent {
         numbers: n,
         starts,
@@ -36,16 +33,19 @@ fn compare(lent: &mut Lent, change: Change, space: usize, right: &(Reported, Len
         marks,
         labels,
     } = lent;
-    let answer = match change {
-        Change::Add(row) => held::add(n, starts, ends, marks, labels, row, &mut given_space),
-        Change::Withdraw(k) => held::withdraw(n, starts, ends, marks, labels, k, &mut given_space),
-    };
-    assert_eq!(numbers(answer), right.0, "{change:?} of {before:?}");
+    numbers(match change {
+        Change::Add(row) => held::add(n, starts, ends, marks, labels, row, space),
+        Change::Withdraw(k) => held::withdraw(n, starts, ends, marks, labels, k, space),
+    })
+}
+
+/// Makes a call and compares what it gives, the numbers, every place of the lists and every byte of the working space; gives the refusal's number.
+fn compare(lent: &mut Lent, change: Change, space: usize, right: &(Reported, Lent)) -> u8 {
+    let before = lent.clone();
+    let (mut space, after) = spaces(space, right.0 .0);
+    assert_eq!(library(lent, change, &mut space), right.0, "{change:?} of {before:?}");
     assert_eq!(*lent, right.1, "{change:?} of {before:?}");
-    if right.0 .0 == 0 || right.0 .0 == 8 {
-        right_space[..SPACE_BYTES].fill(0);
-    }
-    assert!(given_space == right_space, "working space, {change:?} of {before:?}");
+    assert!(space == after, "working space, {change:?} of {before:?}");
     right.0 .0
 }
 
@@ -110,7 +110,7 @@ fn random_change(sequence: &mut Sequence, drawn: &Drawn, rows: usize) -> Change 
 /// Enough working space, or now and then too little.
 fn random_space(sequence: &mut Sequence) -> usize {
     match sequence.within(0, 19) {
-        0 => sequence.within(0, 16_383) as usize,
+        0 => sequence.within(0, SPACE_BYTES as u32 - 1) as usize,
         1 => SPACE_BYTES - 1,
         more => SPACE_BYTES + more as usize % 3,
     }
@@ -307,26 +307,32 @@ fn random_held(sequence: &mut Sequence, drawn: &Drawn) -> Held {
     held
 }
 
+/// Numbers and lists that came from no call, and a change.
+pub fn damaged(sequence: &mut Sequence) -> (Lent, Change) {
+    let drawn = random_drawn(sequence, 10);
+    let held = random_held(sequence, &drawn);
+    let mut lent = begun(&held).holding(&held);
+    for _ in 0..sequence.within(1, 3) {
+        damage(sequence, &mut lent);
+    }
+    if sequence.one_in(20) {
+        lent = other_places(sequence, &lent);
+    }
+    let change = if sequence.one_in(2) {
+        Change::Add(random_row(sequence, &drawn))
+    } else {
+        Change::Withdraw(sequence.within(0, lent.numbers.rows.min(70) as u32 + 1) as usize)
+    };
+    (lent, change)
+}
+
 /// Numbers and lists that came from no call: the planner's checks come after those of the call, and a refusal leaves all.
 #[test]
 fn damaged_tables() {
     let mut sequence = Sequence::new(1_030);
     let mut met = Met::default();
     for _ in 0..20_000 {
-        let drawn = random_drawn(&mut sequence, 10);
-        let held = random_held(&mut sequence, &drawn);
-        let mut lent = begun(&held).holding(&held);
-        for _ in 0..sequence.within(1, 3) {
-            damage(&mut sequence, &mut lent);
-        }
-        if sequence.one_in(20) {
-            lent = other_places(&mut sequence, &lent);
-        }
-        let change = if sequence.one_in(2) {
-            Change::Add(random_row(&mut sequence, &drawn))
-        } else {
-            Change::Withdraw(sequence.within(0, lent.numbers.rows.min(70) as u32 + 1) as usize)
-        };
+        let (mut lent, change) = damaged(&mut sequence);
         let space = random_space(&mut sequence);
         let right = lent.changed(change, space);
         met.count(change, compare(&mut lent, change, space, &right));

@@ -1,6 +1,6 @@
 //! Request 7 of paper 02 once more, from its text alone: every candidate is added to a copy of the table and the copy is planned whole.
 
-use super::{heard, plan_by_search, window_holds, RULES};
+use super::{heard, plan_by_search, space, window_holds, RULES};
 use hubplan::held::Row;
 use hubplan::tables::Table;
 use hubplan::Kind;
@@ -109,7 +109,7 @@ fn sooner(lent: &Lent) -> Vec<(u8, bool)> {
     vec![
         (1, table.ends.len() != table.rows() || table.marks.len() != table.rows()),
         (2, table.rows() > 64),
-        (3, lent.space < 16_384),
+        (3, lent.space < space::BYTES),
         (16, others != [candidates; 4] || candidates > 64),
         (4, table.ticks < 2 || table.ticks > 43_200),
         (5, wrong_hours),

@@ -1,7 +1,7 @@
 //! Request 5 of paper 02 once more, from its text alone: a held table is a list of rows and the labels that planning all of them gives, worked out anew after each change. Then
 //! what include/hubplan.h says of any numbers and lists.
 
-use super::{heard, plan_by_search, planned, window_holds, RULES};
+use super::{heard, plan_by_search, planned, space, window_holds, RULES};
 use hubplan::held::{Numbers, Row};
 use hubplan::tables::Table;
 use hubplan::Kind;
@@ -76,11 +76,11 @@ fn refusal(held: &Held, change: Change, space: usize) -> u8 {
     let applies = match change {
         Change::Add(row) => vec![
             (2, rows == 64),
-            (3, space < 16_384),
+            (3, space < space::BYTES),
             (6, !window_holds(&with(&held.table, row), rows)),
             (7, row.mark > 5),
         ],
-        Change::Withdraw(k) => vec![(3, space < 16_384), (15, k >= rows)],
+        Change::Withdraw(k) => vec![(3, space < space::BYTES), (15, k >= rows)],
     };
     applies.into_iter().find(|&(_, applies)| applies).map_or(0, |(number, _)| number)
 }
@@ -160,7 +160,7 @@ impl Lent {
         let refusal = match change {
             _ if !self.has_places() => 1,
             Change::Add(_) if rows > 63 => 2,
-            Change::Withdraw(_) if space < 16_384 => 3,
+            Change::Withdraw(_) if space < space::BYTES => 3,
             Change::Withdraw(k) if k >= rows => 15,
             Change::Withdraw(_) if rows > 64 => 2,
             _ => 0,

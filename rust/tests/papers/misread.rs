@@ -1,9 +1,10 @@
-//! Rules that misread request 4, and meanings that misread requests 5, 7 and 8: the tests count how many of their tables, changes and calls tell each of these from the right ones.
+//! Rules that misread request 4, and meanings that misread requests 5, 7, 8 and 9: the tests count how many of their tables, changes and calls tell each of these from the right
+//! ones.
 
 use super::candidates::{self, each, fault, must, planning, with, Answer, Lent};
 use super::held::{Change, Held, Meaning, RIGHT};
 use super::words::{self, not_own};
-use super::{allowed, in_hours, is_near, is_plan, overlaps, too_close, Rules, RULES};
+use super::{allowed, in_hours, is_near, is_plan, overlaps, space, too_close, Rules, RULES};
 use hubplan::held::Row;
 use hubplan::tables::Table;
 use hubplan::Kind;
@@ -99,7 +100,7 @@ fn first(number: u8, applies: bool, held: &Held, change: Change, space: usize) -
 }
 
 fn space_first(held: &Held, change: Change, space: usize) -> u8 {
-    first(3, space < 16_384, held, change, space)
+    first(3, space < space::BYTES, held, change, space)
 }
 
 fn mark_first(held: &Held, change: Change, space: usize) -> u8 {
@@ -115,7 +116,7 @@ fn row_first(held: &Held, change: Change, space: usize) -> u8 {
 /// As if a row that must be heard could not be withdrawn.
 fn musts_stay(held: &Held, change: Change, space: usize) -> u8 {
     let is_must = |k: usize| held.table.marks.get(k).is_some_and(|mark| mark % 2 == 1);
-    let applies = matches!(change, Change::Withdraw(k) if is_must(k)) && space >= 16_384;
+    let applies = matches!(change, Change::Withdraw(k) if is_must(k)) && space >= space::BYTES;
     first(15, applies, held, change, space)
 }
 
@@ -606,4 +607,103 @@ fn marks_refused(table: &Table, places: usize) -> Vec<(u8, bool)> {
     let mut numbers = (CARRIED.refusals)(table, places);
     numbers.push((7, table.marks.iter().any(|&mark| mark > 5)));
     numbers
+}
+
+const LENT: space::Meaning = space::RIGHT;
+
+/// A name, and how working space is understood.
+pub const SPACE: [(&str, space::Meaning); 12] = [
+    (
+        "4,607 bytes are enough",
+        space::Meaning {
+            refused_below: 4_607,
+            ..LENT
+        },
+    ),
+    (
+        "4,608 bytes are too few",
+        space::Meaning {
+            refused_below: 4_609,
+            ..LENT
+        },
+    ),
+    (
+        "3 begins below 16,384 still",
+        space::Meaning {
+            refused_below: 16_384,
+            ..LENT
+        },
+    ),
+    (
+        "4,607 bytes are cleared",
+        space::Meaning {
+            cleared: |refusal| clears(refusal, 4_607),
+            ..LENT
+        },
+    ),
+    (
+        "4,609 bytes are cleared",
+        space::Meaning {
+            cleared: |refusal| clears(refusal, 4_609),
+            ..LENT
+        },
+    ),
+    (
+        "16,384 bytes are cleared still",
+        space::Meaning {
+            cleared: |refusal| clears(refusal, 16_384),
+            ..LENT
+        },
+    ),
+    (
+        "the planner's cells alone are cleared",
+        space::Meaning {
+            cleared: |refusal| clears(refusal, 65 * 65),
+            ..LENT
+        },
+    ),
+    (
+        "all bytes that are lent are cleared",
+        space::Meaning {
+            cleared: |refusal| clears(refusal, usize::MAX),
+            ..LENT
+        },
+    ),
+    (
+        "an accepted call clears nothing",
+        space::Meaning {
+            cleared: |refusal| if refusal == 0 { 0 } else { (LENT.cleared)(refusal) },
+            ..LENT
+        },
+    ),
+    (
+        "8 clears nothing",
+        space::Meaning {
+            cleared: |refusal| if refusal == 8 { 0 } else { (LENT.cleared)(refusal) },
+            ..LENT
+        },
+    ),
+    (
+        "3 clears what is lent",
+        space::Meaning {
+            cleared: |refusal| if refusal == 3 { space::BYTES } else { (LENT.cleared)(refusal) },
+            ..LENT
+        },
+    ),
+    (
+        "all refusals but 3 clear",
+        space::Meaning {
+            cleared: |refusal| if refusal == 3 { 0 } else { space::BYTES },
+            ..LENT
+        },
+    ),
+];
+
+/// So many bytes in the place of 4,608.
+fn clears(refusal: u8, bytes: usize) -> usize {
+    if (LENT.cleared)(refusal) > 0 {
+        bytes
+    } else {
+        0
+    }
 }

@@ -1,12 +1,14 @@
-//! Papers 00 and 01 once more, with requests 2 to 4 of paper 02, request 1 in player.rs, request 5 in held.rs, request 7 in candidates.rs and request 8 in words.rs, written from
-//! their text alone and sharing no code with the planner: the comparison for the tests. Windows are sets of ticks and gaps are steps, found by walking; up to 8 rows every list of
-//! labels is tried; a larger table is planned by a forward search over what each receiver is busy with. The rules that requests 2 to 4 changed stand as they were in former.rs.
+//! Papers 00 and 01 once more, with requests 2 to 4 of paper 02, request 1 in player.rs, request 5 in held.rs, request 7 in candidates.rs, request 8 in words.rs and request 9 in
+//! space.rs, written from their text alone and sharing no code with the planner: the comparison for the tests. Windows are sets of ticks and gaps are steps, found by walking; up
+//! to 8 rows every list of labels is tried; a larger table is planned by a forward search over what each receiver is busy with. The rules that requests 2 to 4 changed stand as
+//! they were in former.rs.
 
 pub mod candidates;
 pub mod former;
 pub mod held;
 pub mod misread;
 pub mod player;
+pub mod space;
 pub mod words;
 
 use hubplan::tables::Table;
@@ -308,7 +310,7 @@ fn with_row(rules: &Rules, table: &Table, i: usize, closes: [u32; 2], states: &H
 /// What a call of the planner gives: refusal (0 for none), count and labels.
 pub fn planned(rules: &Rules, table: &Table, labels: &[u8], space: usize) -> (u8, usize, Vec<u8>) {
     let refusal = match lists_refusal(table, labels.len()) {
-        0 if space < 16_384 => 3,
+        0 if space < space::BYTES => 3,
         0 => table_refusal(rules, table),
         refusal => refusal,
     };
@@ -428,9 +430,9 @@ pub fn read_fleet(tape: &[u8]) -> Option<Table> {
     }
 }
 
-/// What `hubplan` prints for a tape.
-pub fn reply(tape: &[u8]) -> String {
-    let refused = |number: u8| format!("refused {number}\n");
+/// The refusal and what `hubplan` prints for a tape, where it has so many bytes of working space.
+pub fn reply(tape: &[u8], space: usize) -> (u8, String) {
+    let refused = |number: u8| (number, format!("refused {number}\n"));
     if tape.len() > 400 {
         return refused(11);
     }
@@ -440,10 +442,10 @@ pub fn reply(tape: &[u8]) -> String {
     if table.rows() > 64 {
         return refused(2);
     }
-    let (refusal, count, labels) = planned(&RULES, &table, &vec![0; table.rows()], 16_384);
+    let (refusal, count, labels) = planned(&RULES, &table, &vec![0; table.rows()], space);
     if refusal > 0 {
         return refused(refusal);
     }
     let lines: String = labels.iter().enumerate().map(|(i, label)| format!("{i} {label}\n")).collect();
-    format!("heard {count}\n{lines}")
+    (0, format!("heard {count}\n{lines}"))
 }

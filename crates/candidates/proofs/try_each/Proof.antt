@@ -39,7 +39,7 @@ returns-2 c =
     let l = candidates (g .candidate-starts .now) (g .candidate-ends .now) (g .candidate-marks .now) in
     let lists = sym (ap numberOf (c .before .before .before .before .check-lists .ensures)) ∙ sym (c .before .before .before .number .ensures) ∙ c .before .before .if1 .left in
     ap (λ x. called x (g .numbers .now) (g .counts .now) (g .space .now)) (c .looked-at2 .ensures)
-    ∙ lent-refused t l (g .numbers .now) (g .counts .now) (g .space .now) Space (space-refuses t l (g .numbers .now) (g .counts .now) (g .space .now) lists (c .before .if2 .taken)) (λ z. omega arith)
+    ∙ lent-refused t l (g .numbers .now) (g .counts .now) (g .space .now) Space (space-refuses t l (g .numbers .now) (g .counts .now) (g .space .now) lists (omega (arith, c .before .if2 .taken))) (λ z. omega arith)
 
 check-candidates-requires : tie.Need-check-candidates-requires
 check-candidates-requires c κs = search needs
@@ -58,7 +58,7 @@ returns-3 c =
     let lists = sym (ap numberOf (c .before .before .before .before .before .before .before .check-lists .ensures)) ∙ sym (c .before .before .before .before .before .before .number .ensures) ∙ c .before .before .before .before .before .if1 .left in
     let r = c .before .before .before .check-candidates in
     ap (λ x. called x (g .numbers .now) (g .counts .now) (g .space .now)) (c .looked-at3 .ensures)
-    ∙ lent-refused t l (g .numbers .now) (g .counts .now) (g .space .now) (r .result) (r .ensures ∙ candidates-checked t l (g .numbers .now) (g .counts .now) (g .space .now) lists (c .before .before .before .before .if2 .left)) (λ z. c .before .if3 .taken (c .before .before .number2 .ensures ∙ z))
+    ∙ lent-refused t l (g .numbers .now) (g .counts .now) (g .space .now) (r .result) (r .ensures ∙ candidates-checked t l (g .numbers .now) (g .counts .now) (g .space .now) lists (omega (arith, c .before .before .before .before .if2 .left))) (λ z. c .before .if3 .taken (c .before .before .number2 .ensures ∙ z))
 
 try-table-requires : tie.Need-try-table-requires
 try-table-requires c κs =
@@ -67,7 +67,7 @@ try-table-requires c κs =
     let l = candidates (g .candidate-starts .now) (g .candidate-ends .now) (g .candidate-marks .now) in
     let lists = sym (ap numberOf (c .before .before .before .before .before .before .before .before .before .check-lists .ensures)) ∙ sym (c .before .before .before .before .before .before .before .before .number .ensures) ∙ c .before .before .before .before .before .before .before .if1 .left in
     let answers = sym (ap numberOf (c .before .before .before .before .before .check-candidates .ensures)) ∙ sym (c .before .before .before .before .number2 .ensures) ∙ c .before .before .before .if3 .left in
-    (table-lent t l (g .numbers .now) (g .counts .now) (g .space .now) lists (c .before .before .before .before .before .before .if2 .left), candidates-lent t l (g .numbers .now) (g .counts .now) (g .space .now) answers)
+    (table-lent t l (g .numbers .now) (g .counts .now) (g .space .now) lists (omega (arith, c .before .before .before .before .before .before .if2 .left)), candidates-lent t l (g .numbers .now) (g .counts .now) (g .space .now) answers)
 
 same-length : tie.Need-same-length
 same-length c = search needs

@@ -2,9 +2,12 @@
 use Rattle.planner.proofs.Answering.{lists-refuses, space-refuses, table-checked, refused-said, ready, answer-said}
 use Rattle.table.specs.declared.Looked.{Looked}
 use Rattle.table.specs.Tables.{table}
+use Rattle.table.specs.Planned.{spaceBytes}
 use Rattle.refusals.specs.Refusals.{numberOf}
 use Rattle.refusals.specs.declared.Refusal.the-variants.{Space}
+use Prim.Native.Nat.{_≤_}
 use mathlib.Core.Path.{_≡_, _∙_, sym, ap}
+use lib.ListN.{length}
 use native.Mathlib.Omega.{arith}
 use borrow.Author.Needs.{needs}
 use Rattle.planner.proofs.plan.Statement.{statement}
@@ -38,7 +41,7 @@ returns-2 c =
     let t = table (begun .setting) (begun .starts .now) (begun .ends .now) (begun .marks .now) in
     let b = begun .labels .now in
     let s = begun .space .now in
-    refused-said t b s Space (c .refused2 .result) (c .refused2 .ensures) (space-refuses t b s (sym (ap numberOf (c .before .before .before .before .check-lists .ensures)) ∙ sym (c .before .before .before .number .ensures) ∙ c .before .before .if1 .left) (c .before .if2 .taken)) (λ z. omega arith)
+    refused-said t b s Space (c .refused2 .result) (c .refused2 .ensures) (space-refuses t b s (sym (ap numberOf (c .before .before .before .before .check-lists .ensures)) ∙ sym (c .before .before .before .number .ensures) ∙ c .before .before .if1 .left) (omega (arith, c .before .if2 .taken))) (λ z. omega arith)
 
 check-table-requires : tie.Need-check-table-requires
 check-table-requires c κs = search needs
@@ -58,7 +61,7 @@ returns-3 c =
     let k = c .before .before .before .check-table in
     let n : numberOf (k .result .refusal) ≡ 0 → ⊥ = λ z. c .before .if3 .taken (c .before .before .number2 .ensures ∙ z) in
     refused-said t b s (k .result .refusal) (c .refused3 .result) (c .refused3 .ensures)
-    (ap (λ (x : Looked). x .refusal) (k .ensures) ∙ table-checked t b s (sym (ap numberOf (c .before .before .before .before .before .before .before .check-lists .ensures)) ∙ sym (c .before .before .before .before .before .before .number .ensures) ∙ c .before .before .before .before .before .if1 .left) (c .before .before .before .before .if2 .left)) n
+    (ap (λ (x : Looked). x .refusal) (k .ensures) ∙ table-checked t b s (sym (ap numberOf (c .before .before .before .before .before .before .before .check-lists .ensures)) ∙ sym (c .before .before .before .before .before .before .number .ensures) ∙ c .before .before .before .before .before .if1 .left) (omega (arith, c .before .before .before .before .if2 .left))) n
 
 plan-checked-requires : tie.Need-plan-checked-requires
 plan-checked-requires c κs =
@@ -67,7 +70,7 @@ plan-checked-requires c κs =
     let b = begun .labels .now in
     let s = begun .space .now in
     let lists = sym (ap numberOf (c .before .before .before .before .before .before .before .before .check-lists .ensures)) ∙ sym (c .before .before .before .before .before .before .before .number .ensures) ∙ c .before .before .before .before .before .before .if1 .left in
-    let room = c .before .before .before .before .before .if2 .left in
+    let room : spaceBytes ≤ length s = omega (arith, c .before .before .before .before .before .if2 .left) in
     let looked = ap (λ (x : Looked). x .refusal) (c .before .before .before .before .check-table .ensures) in
     let passed = sym (ap numberOf (looked ∙ table-checked t b s lists room)) ∙ sym (c .before .before .before .number2 .ensures) ∙ c .before .before .if3 .left in
     ready t b s passed room
@@ -88,7 +91,7 @@ returns-4 c =
     let b = begun .labels .now in
     let s = begun .space .now in
     let lists = sym (ap numberOf (c .before .before .before .before .before .before .before .before .before .before .before .before .before .before .before .before .before .check-lists .ensures)) ∙ sym (c .before .before .before .before .before .before .before .before .before .before .before .before .before .before .before .before .number .ensures) ∙ c .before .before .before .before .before .before .before .before .before .before .before .before .before .before .before .if1 .left in
-    let room = c .before .before .before .before .before .before .before .before .before .before .before .before .before .before .if2 .left in
+    let room : spaceBytes ≤ length s = omega (arith, c .before .before .before .before .before .before .before .before .before .before .before .before .before .before .if2 .left) in
     let looked = ap (λ (x : Looked). x .refusal) (c .before .before .before .before .before .before .before .before .before .before .before .before .before .check-table .ensures) in
     let passed = sym (ap numberOf (looked ∙ table-checked t b s lists room)) ∙ sym (c .before .before .before .before .before .before .before .before .before .before .before .before .number2 .ensures) ∙ c .before .before .before .before .before .before .before .before .before .before .before .if3 .left in
     let p = c .before .before .before .before .before .before .before .before .plan-checked in

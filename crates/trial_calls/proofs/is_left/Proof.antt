@@ -21,7 +21,7 @@ is-written-requires c κs = search needs
 returns : tie.Need-returns
 returns c =
     c .is-written .ensures
-    ∙ ap (isWritten _) (c .before .first-bytes .ensures ∙ ap (λ n. take n (replicate 16384 0)) (c .before .before .cleared .ensures))
+    ∙ ap (isWritten _) (c .before .first-bytes .ensures ∙ ap (λ n. take n (replicate 4608 0)) (c .before .before .cleared .ensures))
 
 pub is-left-spec : {M : Type 1} → statement M
 is-left-spec =

@@ -16,6 +16,9 @@ no-additions-requires c κs = search needs
 no-withdrawals-requires : tie.Need-no-withdrawals-requires Inv-loop μ-loop
 no-withdrawals-requires c κs = search needs
 
+none-lent-requires : tie.Need-none-lent-requires Inv-loop μ-loop
+none-lent-requires c κs = search needs
+
 loop-holds : tie.Need-loop-holds Inv-loop μ-loop
 loop-holds c = search needs
 
@@ -45,6 +48,7 @@ all-spec =
     μ-loop
     no-additions-requires
     no-withdrawals-requires
+    none-lent-requires
     loop-holds
     round-of-requires
     with-sequence-requires
