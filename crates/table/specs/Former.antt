@@ -1,4 +1,4 @@
--- Believed: Definitions that a request of paper 02 replaced, word for word as they stood before it and with what they rest on: what "keep their plans" compares with. A name that
+-- Believed: Definitions that a request of paper 02 replaced, word for word as they stood before it and with what they rest on: what "keep their plans" and "the same answer" compare with. A name that
 -- ends in Before2 is that of a definition that request 2 replaced, and so on; of windows they stand in the crate `window`. No contract cites them.
 use Prim.Native.Nat.{ℕ, zero, suc, _≤_, _<_}
 use mathlib.Core.Path.{_≡_}
