@@ -1,4 +1,6 @@
 // What several crates use: how many rows there can be, and small functions on numbers.
+#![tactic(auto)]
+
 ghost use Rattle.std.specs.Prelude.{◌≡◌, max, min};
 ghost use Rattle.basics.specs.Limits.{has_places};
 

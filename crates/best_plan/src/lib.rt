@@ -1,4 +1,6 @@
 // The best plan of a table that has passed its checks, its count alone, and the clearing of the working space: what the planner and its like are made of.
+#![tactic(auto)]
+
 ghost use Rattle.std.specs.Prelude.{◌≡◌, ◌++◌, map, ◌≤◌, length, drop, replicate, set};
 ghost use Rattle.labels.specs.Permission.{label_of};
 ghost use Rattle.line.specs.Cells.{core_bytes};
@@ -16,7 +18,7 @@ use window::{Kind, MAX_GAP, Row};
 pub const SPACE_BYTES: usize = 4608;
 
 // An arc of a circle: its first tick and how many ticks it has.
-#[derive(Drop)]
+#[derive(Clone, Copy)]
 pub struct Arc {
     pub start: u16,
     pub length: u16,

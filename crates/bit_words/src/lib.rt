@@ -1,4 +1,6 @@
 // One bit per row (request 8 of paper 02): labels as a heard and a receiver word and back, marks as a must word, and for each row a word of the rows that clash with it.
+#![tactic(auto)]
+
 ghost use Rattle.std.specs.Prelude.{◌≡◌, ◌≤◌, length};
 ghost use Rattle.basics.specs.Limits.{max_rows};
 ghost use Rattle.bit_words.specs.Words.{tells, word_for, are_labels, label_words, words_call, label_by, are_words, labels_from, labels_given, labels_call, must_call};
@@ -10,7 +12,7 @@ mod bits;
 pub mod clashes;
 
 // The words that are made of a list with a label or a mark for each row.
-#[derive(Drop)]
+#[derive(Clone, Copy)]
 pub enum Word {
     Heard,
     Receiver,
@@ -18,7 +20,7 @@ pub enum Word {
 }
 
 // What labels are as words: the refusal, the number heard, and the two words, all 0 on a refusal.
-#[derive(Drop)]
+#[derive(Clone, Copy)]
 pub struct LabelWords {
     pub refusal: Refusal,
     pub count: usize,
@@ -27,7 +29,7 @@ pub struct LabelWords {
 }
 
 // What marks are as a word, 0 on a refusal.
-#[derive(Drop)]
+#[derive(Clone, Copy)]
 pub struct MustWord {
     pub refusal: Refusal,
     pub word: u64,

@@ -58,7 +58,7 @@ pub fn between(kind: Kind, ticks: u16, end: u16, start: u16) -> u16 {
 }
 
 // A receiver needs `gap` ticks between two windows, counted in a run or a round of `ticks` ticks.
-#[derive(Drop)]
+#[derive(Clone, Copy)]
 pub struct Gap {
     pub kind: Kind,
     pub ticks: u16,

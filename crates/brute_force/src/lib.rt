@@ -1,5 +1,7 @@
 // A brute force of the papers: the best plan of a table of at most 7 rows on at most 64 ticks, by walking ticks and trying every label list.
 // It is what the planner is compared with, so it is written from the papers alone and uses no other crate of the product.
+#![tactic(auto)]
+
 pub mod clashes;
 pub mod plans;
 pub mod random;

@@ -4,7 +4,7 @@ ghost use Rattle.std.specs.Prelude.{◌≡◌, false, ◌≢◌, ◌↔◌};
 use crate::clashes::one;
 
 // What the search found. `answer` is 0 where there is no plan, else one more than the most that a plan hears.
-#[derive(Drop)]
+#[derive(Clone, Copy)]
 pub struct Found {
     pub answer: u8,
     // the labels of the first of the plans that hear most, and 0 after the last row; all 0 where there is no plan
@@ -17,7 +17,7 @@ pub struct Found {
 }
 
 // Rows that have been given labels: whether they obey the rules, how many are heard, and the set of rows of each receiver.
-#[derive(Drop)]
+#[derive(Clone, Copy)]
 struct Receivers {
     fits: bool,
     heard: u8,
@@ -26,7 +26,7 @@ struct Receivers {
 }
 
 // What the search has seen so far; `first` is the number of the first of the best label lists.
-#[derive(Drop)]
+#[derive(Clone, Copy)]
 struct Tally {
     answer: u8,
     first: u32,

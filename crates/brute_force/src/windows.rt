@@ -1,7 +1,7 @@
 // Which ticks a window covers, and which labels its row may have, as paper 01 and requests 2 and 3 of paper 02 say it.
 // A set of ticks is a number whose bit t says that tick t, below 64, is in it.
 
-#[derive(Drop)]
+#[derive(Clone, Copy)]
 pub enum Kind {
     Round,
     Run,

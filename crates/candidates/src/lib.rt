@@ -1,4 +1,6 @@
 // Candidate windows tried against a table before casting (request 7 of paper 02): each alone, as an added row that must be heard.
+#![tactic(auto)]
+
 ghost use Rattle.std.specs.Prelude.{◌≡◌, length, drop, replicate};
 ghost use Rattle.line.specs.Cells.{core_bytes};
 ghost use Rattle.table.specs.Tables.{table};
@@ -15,7 +17,7 @@ use window::Row;
 pub const MAX_CANDIDATES: usize = 64;
 
 // What a candidate is answered: a refusal's number, 0 for accepted, and a count, 0 on a refusal.
-#[derive(Drop)]
+#[derive(Clone, Copy)]
 pub struct Tried {
     pub number: u8,
     pub count: u8,

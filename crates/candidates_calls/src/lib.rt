@@ -1,5 +1,7 @@
 // Calls that try candidates, each judged whole: the refusal's number, the rows looked at, every place of both lists of answers, every byte of the working space.
 // Product code has a part in each call: its setting is of the table's own type, `refusals::number` gives the number of its refusal.
+#![tactic(auto)]
+
 ghost use Rattle.std.specs.Prelude.{◌≡◌, true, ◌↔◌};
 ghost use Rattle.candidates_calls.specs.Judged.{Reported, Right};
 
@@ -7,7 +9,7 @@ use table::{Looked, Setting};
 use trial_calls::{BEFORE, LENT_BYTES, at_most};
 
 // How many places of each list of answers a call is lent, and how many bytes of the working space.
-#[derive(Drop)]
+#[derive(Clone, Copy)]
 pub struct Lent {
     pub numbers: usize,
     pub counts: usize,
@@ -24,7 +26,7 @@ pub fn for_each(candidates: usize) -> Lent {
 }
 
 // What a call is to report: a refusal's number, 0 for accepted, and how many rows were looked at.
-#[derive(Drop)]
+#[derive(Clone, Copy)]
 pub struct Report {
     pub number: u8,
     pub rows: usize,

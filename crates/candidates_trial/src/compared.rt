@@ -11,7 +11,7 @@ use window::Kind;
 
 pub const CALLS: u32 = 12000;
 
-#[derive(Drop)]
+#[derive(Clone, Copy)]
 pub struct Tally {
     pub calls: Calls,
     pub answers: Answers,

@@ -5,7 +5,7 @@ use trial_calls::LENT_BYTES;
 use window::Row;
 
 // A run or a round; hours are p1, q1, p2, q2. Only the first `rows` rows count.
-#[derive(Drop)]
+#[derive(Clone, Copy)]
 pub struct Table {
     pub run: bool,
     pub ticks: u16,
@@ -15,7 +15,7 @@ pub struct Table {
     pub list: Rows,
 }
 
-#[derive(Drop)]
+#[derive(Clone, Copy)]
 pub struct Rows {
     pub starts: [u16; 8],
     pub ends: [u16; 8],
@@ -25,7 +25,7 @@ pub struct Rows {
 }
 
 // How many places of each list a call is lent, and how many bytes of the working space.
-#[derive(Drop)]
+#[derive(Clone, Copy)]
 pub struct Lists {
     pub starts: usize,
     pub ends: usize,
@@ -39,7 +39,7 @@ pub struct Lists {
 }
 
 // A call, and the sequence's state after it.
-#[derive(Drop)]
+#[derive(Clone, Copy)]
 pub struct Drawn {
     pub table: Table,
     pub candidates: usize,
@@ -51,7 +51,7 @@ pub struct Drawn {
 // ---- rows
 
 // Days of so many ticks with windows of up to `longest`; one window in `often` is wrong, and one mark in as many.
-#[derive(Drop)]
+#[derive(Clone, Copy)]
 struct Days {
     run: bool,
     ticks: u16,

@@ -7,14 +7,14 @@ use candidates_calls::Report;
 use window::Row;
 
 // What a candidate is answered.
-#[derive(Drop)]
+#[derive(Clone, Copy)]
 pub struct Tried {
     pub number: u8,
     pub count: u8,
 }
 
 // What a call reports, and the answers to the candidates where it is accepted.
-#[derive(Drop)]
+#[derive(Clone, Copy)]
 pub struct Expected {
     pub report: Report,
     pub numbers: [u8; 8],

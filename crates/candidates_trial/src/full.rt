@@ -8,7 +8,7 @@ use trial_calls::{first_bytes, first_words};
 use trial_report::{Group, no_cases, with_case};
 
 // So many rows, of which the one at `place` is another.
-#[derive(Drop)]
+#[derive(Clone, Copy)]
 struct Rows {
     rows: usize,
     place: usize,

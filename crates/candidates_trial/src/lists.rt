@@ -36,7 +36,7 @@ pub fn put_byte(list: &mut [u8], i: usize, byte: u8) {
 }
 
 // Places of the starts, ends and marks of the candidates, of the numbers and of the counts.
-#[derive(Drop)]
+#[derive(Clone, Copy)]
 struct Places {
     starts: usize,
     ends: usize,

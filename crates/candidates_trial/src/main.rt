@@ -1,5 +1,7 @@
 // Tries candidates and compares what each call gives with what it is to give, worked out by hand or, for random calls, beside the brute force.
 // It prints how often each case was met.
+#![tactic(auto)]
+
 mod compared;
 mod drawn;
 mod edges;

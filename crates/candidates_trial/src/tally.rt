@@ -9,7 +9,7 @@ use trial_report::more;
 use window::Row;
 
 // Refused calls by their number.
-#[derive(Drop)]
+#[derive(Clone, Copy)]
 pub struct Refused {
     pub lists: u32,
     pub rows: u32,
@@ -23,7 +23,7 @@ pub struct Refused {
     pub no_plan: u32,
 }
 
-#[derive(Drop)]
+#[derive(Clone, Copy)]
 pub struct Calls {
     pub rounds: u32,
     pub runs: u32,
@@ -43,7 +43,7 @@ pub struct Calls {
 }
 
 // Candidates by the number of their answer, and facts of those that were planned.
-#[derive(Drop)]
+#[derive(Clone, Copy)]
 pub struct Answers {
     pub heard: u32,
     pub full: u32,
@@ -55,7 +55,7 @@ pub struct Answers {
     pub planned: Planned,
 }
 
-#[derive(Drop)]
+#[derive(Clone, Copy)]
 pub struct Planned {
     // the mark is 0, 2 or 4, and the answer would be another if it were not raised
     pub raised: u32,

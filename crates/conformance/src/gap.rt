@@ -9,7 +9,7 @@ use window::Kind;
 // ---- two windows
 
 // Two rows of a round or of a run of 10 ticks, which is open all the time: start–end and start2–end2.
-#[derive(Drop)]
+#[derive(Clone, Copy)]
 struct Pair {
     kind: Kind,
     start: u16,

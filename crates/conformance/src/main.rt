@@ -1,4 +1,6 @@
 // Runs what paper 01 and requests 2 to 4 of paper 02 say of the planner and the plan tape writer, and compares. It prints for each group how many cases there were and how many differ.
+#![tactic(auto)]
+
 mod all_day;
 mod bench;
 mod edges;

@@ -5,7 +5,7 @@ ghost use Rattle.window.specs.Ticks.{Ticks, distance};
 use trial_report::{Group, more, no_cases, with_case};
 
 // The distances that were compared; of how many the tick lies at, after or before the start, and of how many the tick plus R is beyond 16 bits.
-#[derive(Drop)]
+#[derive(Clone, Copy)]
 pub struct Tally {
     pub distances: Group,
     pub at: u32,

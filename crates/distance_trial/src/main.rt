@@ -1,5 +1,7 @@
 // Compares `window::distance` with the steps from a start on to a tick, counted one by one, and with the remainder that request 6 of paper 02 asks it to equal.
 // It prints how often the tick was at, after and before the start, and how often the tick plus R was beyond 16 bits.
+#![tactic(auto)]
+
 ghost use Rattle.std.specs.Prelude.{◌<◌, ◌≤◌};
 ghost use Rattle.window.specs.Ticks.{Ticks};
 
@@ -16,7 +18,7 @@ const LONGEST: u16 = 43200;
 const SHORT: u16 = 96;
 
 // Which ticks of a round are compared with each other, and with what.
-#[derive(Drop)]
+#[derive(Clone, Copy)]
 enum Chosen {
     // Every tick, by steps.
     Every,

@@ -1,4 +1,6 @@
 // The reader of fleet tapes: the form is judged to the end of the tape, and then the lists are filled.
+#![tactic(auto)]
+
 ghost use Rattle.std.specs.Prelude.{◌≡◌, true, ◌+◌, drop};
 ghost use Rattle.tape.specs.Words.{Inside};
 ghost use Rattle.window.specs.Rows.{starts_of, ends_of, marks_of};
@@ -15,7 +17,7 @@ use tape::{HOURS, MUST2, ROUND, RUN, WINDOW, begins, is_stop_at, operand_bytes, 
 use window::Kind;
 
 // What a call reports: "kind, R, hours (all 0 in a round) and rows".
-#[derive(Drop)]
+#[derive(Clone, Copy)]
 pub struct Report {
     pub refusal: Refusal,
     pub kind: Kind,
@@ -25,7 +27,7 @@ pub struct Report {
 }
 
 // How many rows a tape has; none if it is not of the form to its end.
-#[derive(Drop)]
+#[derive(Clone, Copy)]
 pub enum Scanned {
     Count(usize),
     Broken,

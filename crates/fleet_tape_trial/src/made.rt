@@ -2,7 +2,7 @@
 ghost use Rattle.std.specs.Prelude.{◌≤◌};
 
 // The head of a tape: hours are p1, q1, p2, q2.
-#[derive(Drop)]
+#[derive(Clone, Copy)]
 pub struct Head {
     pub run: bool,
     pub ticks: u16,
@@ -10,7 +10,7 @@ pub struct Head {
 }
 
 // What a tape states: its head, and its rows at the front of the lists. It states nothing if it is not of the form.
-#[derive(Drop)]
+#[derive(Clone, Copy)]
 pub struct Stated {
     pub of_form: bool,
     pub head: Head,

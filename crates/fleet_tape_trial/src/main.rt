@@ -1,6 +1,8 @@
 // Runs the fleet tape reader on tapes of the form and on tapes not of it, and prints how many answers differ from what they must be:
 // what the tape was made from; where a byte was changed since, what a decoder of the trial's own finds.
 // Product code names what is reported: `refusals::number`, `window::Kind`, `fleet_tape::hours_in`. None makes a tape.
+#![tactic(auto)]
+
 mod decoded;
 mod held;
 mod made;
@@ -12,7 +14,7 @@ use made::{
 };
 
 // How many tapes were read, how many of them are of the form, and how many answers differ.
-#[derive(Drop)]
+#[derive(Clone, Copy)]
 struct Tally {
     read: u64,
     of_form: u64,
@@ -178,7 +180,7 @@ fn read_all_day(run: bool) -> Tally {
 // ---- a byte changed
 
 // Whether a changed tape is of the form, and whether it is answered as it must be.
-#[derive(Drop)]
+#[derive(Clone, Copy)]
 struct Changed {
     of_form: bool,
     right: bool,

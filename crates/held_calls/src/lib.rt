@@ -1,5 +1,7 @@
 // Calls of the held table, each judged whole: the refusal's number, the count, the numbers, every place of the four lists, every byte of the working space.
 // Product code has a part in each call: `refusals::number` gives the number of its refusal, and the numbers are of the held table's own type.
+#![tactic(auto)]
+
 ghost use Rattle.std.specs.Prelude.{◌≡◌, true, ◌↔◌};
 ghost use Rattle.held_calls.specs.Judged.{Same};
 
@@ -8,7 +10,7 @@ use trial_calls::{BEFORE, LENT_BYTES, at_most};
 use window::Row;
 
 // A held table as a trial keeps it: its numbers, and lists with two places more than a call is lent, so that a step beyond the lent ones is seen.
-#[derive(Drop)]
+#[derive(Clone, Copy)]
 pub struct Held {
     pub numbers: Numbers,
     pub starts: [u16; 66],
@@ -18,14 +20,14 @@ pub struct Held {
 }
 
 // What is called.
-#[derive(Drop)]
+#[derive(Clone, Copy)]
 pub enum Change {
     Add(Row),
     Withdraw(usize),
 }
 
 // How many places of each list a call is lent, and how many bytes of the working space.
-#[derive(Drop)]
+#[derive(Clone, Copy)]
 pub struct Lent {
     pub starts: usize,
     pub ends: usize,

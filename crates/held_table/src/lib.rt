@@ -1,5 +1,7 @@
 // A held table with its plan (request 5 of paper 02): begun empty, a row added at the end, a row withdrawn by number. Its numbers go in and come back by value; its
 // rows and labels lie in four lent lists of 64 places, of which the first `rows` count.
+#![tactic(auto)]
+
 ghost use Rattle.std.specs.Prelude.{◌≡◌, ◌+◌, ◌-◌, ◌<◌, length, take, drop};
 ghost use Rattle.window.specs.declared.Kind.TheVariants.{Round};
 ghost use Rattle.window.specs.Hours.{no_hours};
@@ -16,7 +18,7 @@ use refusals::{Answer, Refusal};
 use window::Row;
 
 // The numbers of a held table: R and g of its round, how many rows it has, and how many of them its plan hears.
-#[derive(Drop)]
+#[derive(Clone, Copy)]
 pub struct Numbers {
     pub ticks: u16,
     pub gap: u16,
@@ -25,14 +27,14 @@ pub struct Numbers {
 }
 
 // What a begin gives.
-#[derive(Drop)]
+#[derive(Clone, Copy)]
 pub struct Begun {
     pub refusal: Refusal,
     pub numbers: Numbers,
 }
 
 // What a change gives: the planner's answer or the refusal that came before it, and the numbers of what is then held.
-#[derive(Drop)]
+#[derive(Clone, Copy)]
 pub struct Changed {
     pub answer: Answer,
     pub numbers: Numbers,

@@ -5,7 +5,7 @@ use trial_calls::LENT_BYTES;
 use window::Row;
 
 // A round, with windows of up to so many ticks and windows that send all day; where it is planned by brute force, it has at most 7 rows.
-#[derive(Drop)]
+#[derive(Clone, Copy)]
 pub struct Round {
     pub ticks: u16,
     pub gap: u16,
@@ -14,7 +14,7 @@ pub struct Round {
 }
 
 // A change, how many bytes of working space it is lent, and the sequence's state after it.
-#[derive(Drop)]
+#[derive(Clone, Copy)]
 pub struct Drawn {
     pub change: Change,
     pub bytes: usize,

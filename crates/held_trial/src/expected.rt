@@ -9,7 +9,7 @@ use window::{Kind, Row};
 const SPACE_BYTES: usize = 4608;
 
 // The number of the refusal, 0 for none, and what is held after the change.
-#[derive(Drop)]
+#[derive(Clone, Copy)]
 pub struct Expected {
     pub number: u8,
     pub held: Held,

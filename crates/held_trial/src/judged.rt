@@ -84,7 +84,7 @@ pub fn not_withdrawn(group: Group, h: Held, k: usize, number: u8) -> Group {
 // ---- one after the other
 
 // The cases so far, and the table.
-#[derive(Drop)]
+#[derive(Clone, Copy)]
 pub struct Judged {
     pub group: Group,
     pub held: Held,

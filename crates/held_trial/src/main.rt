@@ -1,5 +1,7 @@
 // Changes held tables and compares what each call gives with what it is to give, worked out by hand or, for random changes, beside a table of the trial's own.
 // It prints how often each case was met.
+#![tactic(auto)]
+
 mod damaged;
 mod drawn;
 mod edges;

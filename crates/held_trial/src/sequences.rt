@@ -10,7 +10,7 @@ const CHANGES: u32 = 320;
 
 const GROWING: u32 = 200;
 
-#[derive(Drop)]
+#[derive(Clone, Copy)]
 pub struct Tally {
     pub changes: u32,
     pub additions: Additions,
@@ -21,7 +21,7 @@ pub struct Tally {
 }
 
 // A sequence so far: its table, and what was counted.
-#[derive(Drop)]
+#[derive(Clone, Copy)]
 struct Sequence {
     held: Held,
     tally: Tally,

@@ -5,7 +5,7 @@ use trial_report::more;
 use window::Row;
 
 // Changes by the number of their refusal.
-#[derive(Drop)]
+#[derive(Clone, Copy)]
 pub struct Refused {
     pub rows: u32,
     pub space: u32,
@@ -15,7 +15,7 @@ pub struct Refused {
     pub no_row: u32,
 }
 
-#[derive(Drop)]
+#[derive(Clone, Copy)]
 pub struct Additions {
     pub accepted: u32,
     pub refused: Refused,
@@ -27,7 +27,7 @@ pub struct Additions {
     pub seen: u32,
 }
 
-#[derive(Drop)]
+#[derive(Clone, Copy)]
 pub struct Withdrawals {
     pub accepted: u32,
     pub refused: Refused,
@@ -42,7 +42,7 @@ pub struct Withdrawals {
 }
 
 // Accepted changes that were lent no more working space than they need, or less than they needed before request 9.
-#[derive(Drop)]
+#[derive(Clone, Copy)]
 pub struct Lent {
     pub least: u32,
     pub less: u32,

@@ -1,6 +1,8 @@
 // The hub planner's functions for C and Rust. A round and a run have a function each, so that no bad kind can be passed. No function has a `requires`: each answers every
 // input. Each list is the address of its first element and its length in elements; the address is not NULL, also where the length is 0, and is aligned for its type; a
 // list that is written overlaps no other list of the same call.
+#![tactic(auto)]
+
 ghost use Rattle.std.specs.Prelude.{◌≡◌};
 ghost use Rattle.window.specs.declared.Kind.TheVariants.{Round, Run};
 ghost use Rattle.table.specs.Tables.{setting_of, table};
@@ -26,7 +28,7 @@ pub mod words;
 
 // What a call reports: the refusal's number in the papers, 0 for accepted, and the count, 0 on a refusal.
 #[repr(C)]
-#[derive(Drop)]
+#[derive(Clone, Copy)]
 pub struct HubAnswer {
     pub refusal: u8,
     pub count: usize,
@@ -34,7 +36,7 @@ pub struct HubAnswer {
 
 // What the fleet tape reader reports: the refusal's number, whether the tape is of a run, R, the open hours (all 0 in a round) and how many rows there are.
 #[repr(C)]
-#[derive(Drop)]
+#[derive(Clone, Copy)]
 pub struct HubReport {
     pub refusal: u8,
     pub run: bool,
@@ -48,14 +50,14 @@ pub struct HubReport {
 
 // A player: the tick of its next step.
 #[repr(C)]
-#[derive(Drop)]
+#[derive(Clone, Copy)]
 pub struct HubPlayer {
     pub tick: u16,
 }
 
 // What a start of a player gives: the refusal's number, and the player, which is finished on a refusal.
 #[repr(C)]
-#[derive(Drop)]
+#[derive(Clone, Copy)]
 pub struct HubStarted {
     pub refusal: u8,
     pub player: HubPlayer,
@@ -63,7 +65,7 @@ pub struct HubStarted {
 
 // What a receiver does at a tick: whether it listens, to which row and until which tick, both 0 where it is idle.
 #[repr(C)]
-#[derive(Drop)]
+#[derive(Clone, Copy)]
 pub struct HubReceiver {
     pub listening: bool,
     pub row: u8,
@@ -72,7 +74,7 @@ pub struct HubReceiver {
 
 // What a step of a player gives: that the player is finished, or what each receiver does, and the player that has moved on.
 #[repr(C)]
-#[derive(Drop)]
+#[derive(Clone, Copy)]
 pub struct HubStepped {
     pub finished: bool,
     pub receiver1: HubReceiver,
@@ -82,7 +84,7 @@ pub struct HubStepped {
 
 // The numbers of a held table: R and g of its round, how many rows it has, and how many of them its plan hears.
 #[repr(C)]
-#[derive(Drop)]
+#[derive(Clone, Copy)]
 pub struct HubHeldNumbers {
     pub ticks: u16,
     pub gap: u16,
@@ -92,7 +94,7 @@ pub struct HubHeldNumbers {
 
 // What a begin of a held table gives: the refusal's number, and the numbers of an empty table.
 #[repr(C)]
-#[derive(Drop)]
+#[derive(Clone, Copy)]
 pub struct HubHeldBegun {
     pub refusal: u8,
     pub numbers: HubHeldNumbers,
@@ -100,7 +102,7 @@ pub struct HubHeldBegun {
 
 // What a change of a held table gives: the refusal's number and the count, 0 on a refusal, and the numbers of what is then held.
 #[repr(C)]
-#[derive(Drop)]
+#[derive(Clone, Copy)]
 pub struct HubHeldChange {
     pub refusal: u8,
     pub count: usize,
@@ -109,7 +111,7 @@ pub struct HubHeldChange {
 
 // What trying candidates reports: the refusal's number, and how many rows were looked at, of the table and of the candidates.
 #[repr(C)]
-#[derive(Drop)]
+#[derive(Clone, Copy)]
 pub struct HubTried {
     pub refusal: u8,
     pub rows: usize,

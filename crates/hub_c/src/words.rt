@@ -13,7 +13,7 @@ use window::Kind;
 
 // What labels are as words: the refusal's number, the number heard, and the two words, all 0 on a refusal.
 #[repr(C)]
-#[derive(Drop)]
+#[derive(Clone, Copy)]
 pub struct HubLabelWords {
     pub refusal: u8,
     pub count: usize,
@@ -23,7 +23,7 @@ pub struct HubLabelWords {
 
 // What marks are as a word: the refusal's number, and the word, 0 on a refusal.
 #[repr(C)]
-#[derive(Drop)]
+#[derive(Clone, Copy)]
 pub struct HubMustWord {
     pub refusal: u8,
     pub word: u64,

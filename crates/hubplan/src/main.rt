@@ -1,4 +1,6 @@
 // The program: reads a fleet tape on standard input, and prints the reply.
+#![tactic(auto)]
+
 use best_plan::SPACE_BYTES;
 
 fn main() {

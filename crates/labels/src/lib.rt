@@ -1,4 +1,6 @@
 // Lists of labels, one label a row: 0 not heard, 1 or 2 the receiver.
+#![tactic(auto)]
+
 ghost use Rattle.std.specs.Prelude.{◌≡◌};
 ghost use Rattle.labels.specs.Labels.{hears, heard};
 

@@ -1,4 +1,6 @@
 // The line program: how many rows of a line two receivers can hear.
+#![tactic(auto)]
+
 ghost use Rattle.std.specs.Prelude.{◌≡◌, ℕ, ◌<◌, ◌≤◌, ◌&&◌, leb, length, drop};
 ghost use Rattle.basics.specs.Limits.{max_rows};
 ghost use Rattle.basics.specs.Lists.{at};

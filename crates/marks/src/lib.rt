@@ -1,4 +1,6 @@
 // What a row's mark says: whether the row must be heard, and by which receiver alone.
+#![tactic(auto)]
+
 ghost use Rattle.std.specs.Prelude.{◌≡◌, ◌||◌, eqb};
 ghost use Rattle.marks.specs.Marks.{is_must, is_receiver1_only, is_receiver2_only, mark_allows, raised};
 

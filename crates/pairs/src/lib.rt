@@ -1,4 +1,6 @@
 // Pairs of crossing rows: how many rows of a circle two receivers can hear.
+#![tactic(auto)]
+
 ghost use Rattle.std.specs.Prelude.{◌≡◌, cond, ◌≤◌, ◌<◌, eqb, length, drop};
 ghost use Rattle.line.specs.Line.{Line, best, rows};
 ghost use Rattle.line.specs.Cells.{Lows, cell_bytes};

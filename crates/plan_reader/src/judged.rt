@@ -9,7 +9,7 @@ use basics::MAX_ROWS;
 use window::Kind;
 
 // A place of a tape, or none.
-#[derive(Drop)]
+#[derive(Clone, Copy)]
 pub enum Place {
     At(usize),
     Nowhere,

@@ -1,4 +1,6 @@
 // The reader of plan tapes: a tape and a place on it, and what stands there.
+#![tactic(auto)]
+
 ghost use Rattle.std.specs.Prelude.{◌≡◌, true, drop};
 ghost use Rattle.tape.specs.Commands.{LISTEN, RECEIVER, begins};
 ghost use Rattle.plan_tape.specs.PlanTapes.{kind_command};
@@ -11,14 +13,14 @@ use window::Kind;
 pub mod judged;
 
 // A plan tape and a place on it.
-#[derive(Drop)]
+#[derive(Clone, Copy)]
 pub struct PlanReader<'a> {
     pub tape: &'a [u8],
     pub at: usize,
 }
 
 // A command of a plan tape with its operands, and the place after it; or something else, or a command that is cut short.
-#[derive(Drop)]
+#[derive(Clone, Copy)]
 pub enum Item {
     Head {
         kind: Kind,

@@ -1,7 +1,7 @@
 // Tables with plans of them, made from a seed: each row takes a receiver that is free for its window, if there is one.
 
 // What a call has besides its lists: how many rows, labels and bytes of the buffer are lent. Hours are p1, q1, p2, q2.
-#[derive(Drop)]
+#[derive(Clone, Copy)]
 pub struct Head {
     pub run: bool,
     pub ticks: u16,
@@ -13,7 +13,7 @@ pub struct Head {
 }
 
 // A call, with lists that have one place more than a table may have rows.
-#[derive(Drop)]
+#[derive(Clone, Copy)]
 pub struct Lent {
     pub head: Head,
     pub starts: [u16; 65],
@@ -23,7 +23,7 @@ pub struct Lent {
 }
 
 // When receivers are open: in a round always, in a run by their hours.
-#[derive(Drop)]
+#[derive(Clone, Copy)]
 struct Open {
     run: bool,
     hours: [u16; 4],

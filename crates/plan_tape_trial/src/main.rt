@@ -1,5 +1,7 @@
 // Runs the plan tape writer on paper 01's session, on calls that it must refuse, and on plans made by chance, each with the longest gap that it keeps, whose tapes it reads back.
 // Product code has a part in the inputs: `table::setting_of` makes the setting of a call, `window::overlap` the plans (see plan_tape_made).
+#![tactic(auto)]
+
 ghost use Rattle.std.specs.Prelude.{◌≤◌};
 
 use plan_tape_made::gaps::{kept, with_gap};
@@ -261,7 +263,7 @@ fn run_not_plans() {
 // ---- plans by chance
 
 // What a call on a plan came to, and what the plan has.
-#[derive(Drop)]
+#[derive(Clone, Copy)]
 struct Trial {
     both: bool,
     wraps: bool,
@@ -273,7 +275,7 @@ struct Trial {
 }
 
 // Counts over many plans.
-#[derive(Drop)]
+#[derive(Clone, Copy)]
 struct Tally {
     both: u64,
     wraps: u64,

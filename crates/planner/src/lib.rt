@@ -1,4 +1,6 @@
 // The planner: from a lent table to the plan that hears the most, of those the first in paper 01's order, or a refusal.
+#![tactic(auto)]
+
 ghost use Rattle.std.specs.Prelude.{◌≡◌, length};
 ghost use Rattle.refusals.specs.Refusals.{number_of};
 ghost use Rattle.table.specs.Tables.{table};

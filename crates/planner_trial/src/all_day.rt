@@ -7,7 +7,7 @@ use brute_force::windows;
 use trial_report::more;
 
 // A field for what it covers instead: no tick, its start alone, every tick but its start.
-#[derive(Drop)]
+#[derive(Clone, Copy)]
 pub struct EveryTick {
     pub not_none: u32,
     pub not_start: u32,
@@ -23,7 +23,7 @@ pub fn nothing() -> EveryTick {
 }
 
 // The ticks that a window is taken to cover, where it is one that sends all day.
-#[derive(Drop)]
+#[derive(Clone, Copy)]
 enum Taken {
     None,
     Start,

@@ -13,7 +13,7 @@ use trial_report::more;
 pub const TABLES: u32 = 24000;
 
 // Of how many tables each fact holds, and the state of the sequence.
-#[derive(Drop)]
+#[derive(Clone, Copy)]
 pub struct Tally {
     pub none: u32,
     pub hours: u32,
@@ -72,7 +72,7 @@ fn is_found_in(t: Table, found: Found, bytes: usize) -> bool {
 }
 
 // How many of the heard rows of a round have a window that goes on from R-1 to tick 0, and how many send all day.
-#[derive(Drop)]
+#[derive(Clone, Copy)]
 struct Counts {
     crossing: u32,
     all_day: u32,

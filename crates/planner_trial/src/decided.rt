@@ -5,7 +5,7 @@ use brute_force::plans::{Found, changed};
 use trial_report::more;
 
 // A field for each mark and the one that takes its place: without must (1, 3, 5), on either receiver (2, 3, 4, 5), and with must (0).
-#[derive(Drop)]
+#[derive(Clone, Copy)]
 pub struct Decided {
     pub zero_as_one: u32,
     pub one_as_zero: u32,

@@ -2,7 +2,7 @@
 use brute_force::random;
 
 // A run or a round; hours are p1, q1, p2, q2. `list` is the number of a label list (`brute_force::plans`), which is offered to the plan tape writer.
-#[derive(Drop)]
+#[derive(Clone, Copy)]
 pub struct Table {
     pub run: bool,
     pub ticks: u16,

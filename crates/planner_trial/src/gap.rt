@@ -4,7 +4,7 @@ use crate::searched::{clashes_by, found_with};
 use brute_force::plans::{Found, changed};
 use trial_report::more;
 
-#[derive(Drop)]
+#[derive(Clone, Copy)]
 pub struct Gaps {
     // g is R or more
     pub long: u32,

@@ -1,4 +1,6 @@
 // Compares the planner's answers for small random tables, and the plan tape writer's for labels of them, with those of the brute force, and prints what there was among them.
+#![tactic(auto)]
+
 mod all_day;
 mod compared;
 mod decided;

@@ -8,7 +8,7 @@ use trial_calls::{first_bytes, first_words, is_taped};
 use trial_report::more;
 
 // How many lists of labels were offered, how many of them are a plan, are one with a gap of 0 alone, are none with any gap, and how many answers differ.
-#[derive(Drop)]
+#[derive(Clone, Copy)]
 pub struct Offered {
     pub lists: u32,
     pub plans: u32,

@@ -1,4 +1,6 @@
 // The player: it follows a plan tape tick by tick, and tells of each receiver whether it is idle or listening to a row, and until which tick.
+#![tactic(auto)]
+
 ghost use Rattle.std.specs.Prelude.{◌≡◌, false, cond, drop};
 ghost use Rattle.window.specs.Windows.{lies_in};
 ghost use Rattle.plan_tape.specs.Stated.{listens_in, after_listens, part_in, after_part};
@@ -12,14 +14,14 @@ use refusals::Refusal;
 use window::Kind;
 
 // "tells whether it is idle or listening to a row, and until which tick"
-#[derive(Drop)]
+#[derive(Clone, Copy)]
 pub enum Receiver {
     Idle,
     Listening { row: u8, until: u16 },
 }
 
 // What a step tells: that the player is finished, or what each receiver does at the step's tick.
-#[derive(Drop)]
+#[derive(Clone, Copy)]
 pub struct State {
     pub finished: bool,
     pub receiver1: Receiver,
@@ -27,27 +29,27 @@ pub struct State {
 }
 
 // A player is the tick of its next step; on a tape whose R is not above that tick it is finished.
-#[derive(Drop)]
+#[derive(Clone, Copy)]
 pub struct Player {
     pub tick: u16,
 }
 
 // What a start gives.
-#[derive(Drop)]
+#[derive(Clone, Copy)]
 pub struct Started {
     pub refusal: Refusal,
     pub player: Player,
 }
 
 // What a step gives: what it tells, and the player that has moved on.
-#[derive(Drop)]
+#[derive(Clone, Copy)]
 pub struct Stepped {
     pub state: State,
     pub player: Player,
 }
 
 // What the LISTENs of a receiver tell, and the place after them.
-#[derive(Drop)]
+#[derive(Clone, Copy)]
 pub struct Part {
     pub receiver: Receiver,
     pub next: usize,

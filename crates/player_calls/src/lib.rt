@@ -1,5 +1,7 @@
 // Calls of the player, each judged whole, for the program that tries it.
 // Product code names what is answered: `refusals::number`, and the player's own types.
+#![tactic(auto)]
+
 ghost use Rattle.std.specs.Prelude.{◌≡◌, ◌+◌, ◌*◌};
 ghost use Rattle.player_calls.specs.Judged.{told_number, same, is_step, is_start};
 

@@ -5,7 +5,7 @@ use player_calls::{is_accepted, is_refused};
 use trial_report::{Group, more, no_cases, with_case};
 
 // Changed tapes, how many of them are still a writer's, and the steps on these.
-#[derive(Drop)]
+#[derive(Clone, Copy)]
 pub struct Changed {
     pub tapes: Group,
     pub made: u32,

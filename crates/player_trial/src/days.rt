@@ -3,7 +3,7 @@
 use player_calls::listening;
 
 // A run or a round of so many ticks.
-#[derive(Drop)]
+#[derive(Clone, Copy)]
 pub struct Time {
     pub run: bool,
     pub ticks: u16,

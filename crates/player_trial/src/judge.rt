@@ -34,7 +34,7 @@ fn word_at(tape: &[u8], at: usize) -> u16 {
 // ---- the form
 
 // How many LISTENs the receivers have, as far as the table has rows.
-#[derive(Drop)]
+#[derive(Clone, Copy)]
 pub struct Counts {
     first: usize,
     second: usize,
@@ -116,7 +116,7 @@ fn has_head(tape: &[u8]) -> bool {
 
 // ---- LISTENs
 
-#[derive(Drop)]
+#[derive(Clone, Copy)]
 struct Listen {
     receiver: u8,
     row: u8,

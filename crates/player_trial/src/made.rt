@@ -39,7 +39,7 @@ fn write(
 
 // What is drawn: a table with a gap, windows of up to so many ticks and windows that send all day, of which the first `rows` rows may be heard.
 // The tape is played from each first tick, or from the first, the last and one between.
-#[derive(Drop)]
+#[derive(Clone, Copy)]
 struct Plan {
     time: Time,
     gap: u16,
@@ -50,14 +50,14 @@ struct Plan {
 }
 
 // A tape's length, and the sequence's state after it was drawn.
-#[derive(Drop)]
+#[derive(Clone, Copy)]
 struct Written {
     n: usize,
     state: u64,
 }
 
 // Tables were played, and the sequence goes on from this state.
-#[derive(Drop)]
+#[derive(Clone, Copy)]
 struct Made {
     tally: Tally,
     state: u64,
@@ -174,7 +174,7 @@ fn longest(run: bool, state: u64) -> Plan {
 }
 
 // Which tables are drawn.
-#[derive(Drop)]
+#[derive(Clone, Copy)]
 pub enum Which {
     Small,
     WithGap,

@@ -1,5 +1,7 @@
 // Plays plan tapes and compares each step with what the tapes' windows say tick by tick; starts the player on tapes that no writer makes.
 // It prints for each group how many cases there were and how many differ, and how many steps met what is easily got wrong.
+#![tactic(auto)]
+
 mod all_day;
 mod broken;
 mod changed;

@@ -5,7 +5,7 @@ use player_calls::{is_accepted, is_step};
 use trial_report::more;
 
 // Starts and steps, how many of both differ, and of how many steps each fact holds.
-#[derive(Drop)]
+#[derive(Clone, Copy)]
 pub struct Tally {
     pub starts: u32,
     pub steps: u32,
@@ -35,7 +35,7 @@ pub fn no_steps() -> Tally {
 }
 
 // What a receiver must do at a tick, at the one after it, and at the one until which it listens.
-#[derive(Drop)]
+#[derive(Clone, Copy)]
 struct Told {
     now: u32,
     next: u32,
@@ -142,7 +142,7 @@ fn with_start(tally: Tally, right: bool) -> Tally {
 }
 
 // What was counted so far, the player, and the tick at which it must stand.
-#[derive(Drop)]
+#[derive(Clone, Copy)]
 struct Way {
     tally: Tally,
     on: Player,

@@ -5,7 +5,7 @@ use player_calls::{is_accepted, is_finished_on, is_refused};
 use trial_report::{Group, no_cases, with_case};
 
 // Starts; tapes that the judge looked at; steps of players that a refused start gave.
-#[derive(Drop)]
+#[derive(Clone, Copy)]
 pub struct Groups {
     pub starts: Group,
     pub judged: Group,

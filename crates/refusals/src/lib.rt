@@ -1,9 +1,11 @@
 // The refusals of papers 01 and 02, by their numbers, and what a call reports.
+#![tactic(auto)]
+
 ghost use Rattle.std.specs.Prelude.{◌≡◌};
 ghost use Rattle.refusals.specs.Refusals.{number_of, answered};
 
 // Why a call is refused, or that it is accepted.
-#[derive(Drop)]
+#[derive(Clone, Copy)]
 pub enum Refusal {
     Accepted,
     Lists,
@@ -25,7 +27,7 @@ pub enum Refusal {
 }
 
 // What a call reports.
-#[derive(Drop)]
+#[derive(Clone, Copy)]
 pub struct Answer {
     pub refusal: Refusal,
     pub count: usize,

@@ -1,4 +1,6 @@
 // From the bytes of a fleet tape to the bytes that `hubplan` prints.
+#![tactic(auto)]
+
 ghost use Rattle.std.specs.Prelude.{◌≡◌, ◌+◌, ◌<◌, length};
 ghost use Rattle.refusals.specs.Refusals.{number_of};
 ghost use Rattle.table.specs.Tables.{table};

@@ -1,4 +1,6 @@
 // Runs what papers 01 and 02 say of the replies to fleet tapes, and compares. It prints how many cases there were and how many differ.
+#![tactic(auto)]
+
 mod replies;
 
 use trial_report::print_group;

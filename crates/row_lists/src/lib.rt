@@ -1,4 +1,6 @@
 // Rows in lent lists of 64 places: a row stored at a place, and the rows after a place moved up or down one.
+#![tactic(auto)]
+
 ghost use Rattle.std.specs.Prelude.{◌≡◌, ◌-◌, set};
 ghost use Rattle.table.specs.Tables.{RowIn};
 ghost use Rattle.row_lists.specs.Moved.{moved_up, moved_down, RowAmong};

@@ -1,4 +1,6 @@
 // Tables of windows: the setting, rows, the checks of a table, and the test whether labels are a plan.
+#![tactic(auto)]
+
 ghost use Rattle.std.specs.Prelude.{◌≡◌};
 ghost use Rattle.window.specs.declared.Kind.TheVariants.{Round};
 ghost use Rattle.window.specs.Hours.{no_hours};
@@ -11,7 +13,7 @@ pub mod checks;
 pub mod plan;
 
 // What all rows of a table share: a round or a run, its ticks, the ticks that a receiver needs between two windows, and the receivers' open hours, which count in a run alone.
-#[derive(Drop)]
+#[derive(Clone, Copy)]
 pub struct Setting {
     pub kind: Kind,
     pub ticks: u16,
@@ -20,7 +22,7 @@ pub struct Setting {
 }
 
 // What the checks of the rows report: the first refusal, and how many rows were looked at.
-#[derive(Drop)]
+#[derive(Clone, Copy)]
 pub struct Looked {
     pub refusal: Refusal,
     pub rows: usize,

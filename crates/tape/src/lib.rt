@@ -1,4 +1,6 @@
 // The commands of a tape with the widths of their operands, 16-bit operands as two bytes, and a command at a place of a tape.
+#![tactic(auto)]
+
 ghost use Rattle.std.specs.Prelude.{◌≡◌, true, ◌+◌, drop};
 ghost use Rattle.tape.specs.Commands.{operand_bytes, begins, stop_last, past};
 ghost use Rattle.tape.specs.Words.{high_byte, low_byte, joined, word_at, Inside};

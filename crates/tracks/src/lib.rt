@@ -1,4 +1,6 @@
 // The best two-track assignment of arcs under permissions.
+#![tactic(auto)]
+
 ghost use Rattle.std.specs.Prelude.{◌≡◌, true, false, ℕ, ◌≤◌, ◌<◌, length, drop, set};
 ghost use Rattle.line.specs.Cells.{cell_bytes, core_bytes};
 ghost use Rattle.basics.specs.Lists.{at};

@@ -6,7 +6,7 @@ use crate::table::Table;
 use brute_force::plans::Found;
 
 // The answer of `tracks`: 0 for no assignment, else one more than it hears; and the labels of the rows.
-#[derive(Drop)]
+#[derive(Clone, Copy)]
 pub struct Assignment {
     pub answer: u8,
     pub labels: [u8; 8],

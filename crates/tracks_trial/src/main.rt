@@ -1,5 +1,7 @@
 // Compares the best assignment that `tracks` gives with that of the brute force, on small tables from a fixed pseudo-random sequence,
 // and prints how many tables there were of each kind that is easily got wrong.
+#![tactic(auto)]
+
 mod answers;
 mod rows;
 mod table;
@@ -10,7 +12,7 @@ use trial_report::{more, print};
 const TABLES: u32 = 5000;
 
 // Of how many tables each fact holds, and the state of the sequence.
-#[derive(Drop)]
+#[derive(Clone, Copy)]
 struct Tally {
     none: u32,
     crossing: u32,

@@ -3,7 +3,7 @@ use crate::table::Table;
 use trial_report::more;
 
 // How many of the rows that are heard cross tick 0, and how many take the whole circle.
-#[derive(Drop)]
+#[derive(Clone, Copy)]
 pub struct Counts {
     pub crossing: u32,
     pub whole: u32,

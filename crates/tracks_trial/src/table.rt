@@ -4,7 +4,7 @@ ghost use Rattle.tracks_trial.specs.Drawn.{Within, Drawn};
 
 use brute_force::random;
 
-#[derive(Drop)]
+#[derive(Clone, Copy)]
 pub struct Table {
     pub circle: u16,
     pub rows: usize,

@@ -1,5 +1,7 @@
 // Calls of the planner and of the plan tape writer, each judged whole: the refusal's number, the count, every place of the list that is written,
 // every byte of the working space. Product code has a part in each call: `table::setting_of` makes its setting, `refusals::number` gives the number of its refusal.
+#![tactic(auto)]
+
 ghost use Rattle.std.specs.Prelude.{◌≡◌, ◌≤◌, take, replicate};
 ghost use Rattle.trial_calls.specs.Judged.{written_at, is_written, cleared};
 

@@ -1,4 +1,6 @@
 // What the trial programs count and print: cases, and those for which a fact holds.
+#![tactic(auto)]
+
 ghost use Rattle.std.specs.Prelude.{◌≡◌, ◌+◌, ◌%◌, ◌^◌, if◌then◌else◌};
 
 // One more if the fact holds.
@@ -34,7 +36,7 @@ pub fn print_two(words: &[u8], n: u32, words2: &[u8], n2: u32) {
 }
 
 // The cases of a group that were run, and how many of them differ from what is right.
-#[derive(Drop)]
+#[derive(Clone, Copy)]
 pub struct Group {
     pub cases: u32,
     pub differ: u32,

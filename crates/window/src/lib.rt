@@ -1,4 +1,6 @@
 // Ticks, windows and rows: how far a tick lies after a start, which tick comes next, whether a window is proper, whether it covers a tick, whether two windows overlap or are too close.
+#![tactic(auto)]
+
 ghost use Rattle.std.specs.Prelude.{◌≡◌, ◌↔◌, true, ℕ, ◌<◌};
 ghost use Rattle.window.specs.Ticks.{Ticks, distance};
 ghost use Rattle.window.specs.Windows.{next, Covers, Overlap, Window, is_window, covers, ticks_in, lies_in, overlaps};
@@ -8,14 +10,14 @@ ghost use Rattle.window.specs.Gaps.{TooClose, is_near, reaches, too_close};
 pub const MAX_GAP: u16 = 600;
 
 // A round is a day that repeats; a run is one stretch of time.
-#[derive(Drop)]
+#[derive(Clone, Copy)]
 pub enum Kind {
     Round,
     Run,
 }
 
 // "Row i has a start and an end (16-bit numbers) and a mark"; what a mark says is the crate `marks`.
-#[derive(Drop)]
+#[derive(Clone, Copy)]
 pub struct Row {
     pub start: u16,
     pub end: u16,

@@ -1,5 +1,7 @@
 // Calls of `bit_words`, each judged whole: the refusal's number, the count, the words, every place of the list that is written.
 // Product code has a part in each call: `refusals::number` gives the number of its refusal, and a setting is of the table's own type.
+#![tactic(auto)]
+
 ghost use Rattle.std.specs.Prelude.{◌≡◌, true, ◌↔◌};
 ghost use Rattle.trial_calls.specs.Judged.{written_at, is_written};
 ghost use Rattle.words_calls.specs.Judged.{WordsRight, MustRight, LabelsRight, ClashesRight};
@@ -10,7 +12,7 @@ use table::Setting;
 use trial_calls::{BEFORE, at_most};
 
 // What labels are to be as words: a refusal's number, 0 for accepted, the number heard, and the two words.
-#[derive(Drop)]
+#[derive(Clone, Copy)]
 pub struct Words {
     pub number: u8,
     pub count: usize,
@@ -19,7 +21,7 @@ pub struct Words {
 }
 
 // What marks are to be as a word.
-#[derive(Drop)]
+#[derive(Clone, Copy)]
 pub struct Must {
     pub number: u8,
     pub word: u64,

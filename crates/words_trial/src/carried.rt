@@ -4,7 +4,7 @@ use trial_calls::first_bytes;
 use trial_report::{Group, more, no_cases, with_case};
 use words_calls::{Words, gives_labels, gives_words};
 
-#[derive(Drop)]
+#[derive(Clone, Copy)]
 pub struct Tally {
     // calls that make words of labels, and labels of words
     pub words: Group,
@@ -13,7 +13,7 @@ pub struct Tally {
 }
 
 // What is carried, and refused by 2 and by 9; of words that are refused by 9, those that only a receiver bit of a row not heard, and only a one from the row count up, is wrong with.
-#[derive(Drop)]
+#[derive(Clone, Copy)]
 pub struct Met {
     pub carried: u32,
     pub over: u32,

@@ -10,7 +10,7 @@ use words_calls::gives_clashes;
 
 pub const CALLS: u32 = 6000;
 
-#[derive(Drop)]
+#[derive(Clone, Copy)]
 pub struct Tally {
     pub calls: Group,
     // the accepted ones again, on a longer day
@@ -22,7 +22,7 @@ pub struct Tally {
 }
 
 // Accepted calls; some have 64 rows, and some hours that the planner refuses by 5 in a run.
-#[derive(Drop)]
+#[derive(Clone, Copy)]
 pub struct Accepted {
     pub rounds: u32,
     pub runs: u32,
@@ -31,7 +31,7 @@ pub struct Accepted {
 }
 
 // Refused calls by their number.
-#[derive(Drop)]
+#[derive(Clone, Copy)]
 pub struct Refused {
     pub lists: u32,
     pub rows: u32,
@@ -41,7 +41,7 @@ pub struct Refused {
 }
 
 // Rows of accepted calls that send all day or over the day's end, and the other rows of each, by what they are to it.
-#[derive(Drop)]
+#[derive(Clone, Copy)]
 pub struct Pairs {
     pub all_day: u32,
     pub over_end: u32,

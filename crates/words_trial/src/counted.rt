@@ -4,14 +4,14 @@ use brute_force::clashes::{Gap, between};
 use brute_force::windows;
 use brute_force::windows::Kind;
 
-#[derive(Drop)]
+#[derive(Clone, Copy)]
 pub struct Window {
     pub start: u16,
     pub end: u16,
 }
 
 // What two windows are to each other; the first three are clashes.
-#[derive(Drop)]
+#[derive(Clone, Copy)]
 pub enum Pair {
     // some tick lies in both
     Overlap,

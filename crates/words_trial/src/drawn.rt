@@ -4,7 +4,7 @@ use brute_force::random;
 use brute_force::random::{below_any, below_too, from};
 
 // A call: a run or a round of so many ticks, with hours p1, q1, p2, q2, so many rows, and as many places as each list is lent.
-#[derive(Drop)]
+#[derive(Clone, Copy)]
 pub struct Drawn {
     pub run: bool,
     pub ticks: u16,
@@ -17,7 +17,7 @@ pub struct Drawn {
     pub state: u64,
 }
 
-#[derive(Drop)]
+#[derive(Clone, Copy)]
 pub struct Rows {
     pub starts: [u16; 66],
     pub ends: [u16; 66],
@@ -27,7 +27,7 @@ pub struct Rows {
 }
 
 // How many places of each list a call is lent.
-#[derive(Drop)]
+#[derive(Clone, Copy)]
 pub struct Lists {
     pub starts: usize,
     pub ends: usize,
@@ -37,7 +37,7 @@ pub struct Lists {
 // ---- rows
 
 // Days of so many ticks with windows of up to `longest`.
-#[derive(Drop)]
+#[derive(Clone, Copy)]
 struct Days {
     run: bool,
     ticks: u16,

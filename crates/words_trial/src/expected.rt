@@ -2,7 +2,7 @@
 use words_calls::{Must, Words};
 
 // What words are as labels: so many places of the list, none on a refusal.
-#[derive(Drop)]
+#[derive(Clone, Copy)]
 pub struct Labels {
     pub number: u8,
     pub rows: usize,

@@ -1,5 +1,7 @@
 // Runs `bit_words` and compares what each call gives with what it is to give: labels and marks by doubling and halving, clash words by counting ticks or by hand.
 // It prints how often each case was met.
+#![tactic(auto)]
+
 mod carried;
 mod clashes;
 mod counted;

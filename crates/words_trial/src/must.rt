@@ -5,7 +5,7 @@ use trial_report::{Group, more, no_cases, with_case};
 use words_calls::gives_must;
 
 // The lists that were tried; of how many the word has a one and is 0, and those that are refused by 2.
-#[derive(Drop)]
+#[derive(Clone, Copy)]
 pub struct Tally {
     pub lists: Group,
     pub some: u32,

@@ -1,0 +1,15 @@
+-- `labels::count_heard` meets its contract: the loop has counted the labels that it passed.
+use Prim.Native.Nat.{◌≤◌, ◌-◌, ◌+◌}
+use mathlib.Core.Path.{◌≡◌, ◌∙◌, sym}
+use native.Mathlib.Omega.{arith}
+use borrow.Author.Rules.{rules}
+use lib.ListN.{length, take, get_or}
+use Rattle.labels.specs.Labels.{hears, heard}
+use Rattle.labels.proofs.Heard.{hears_le, heard_nil, heard_more, heard_all}
+use Rattle.labels.proofs.count_heard.Given as goal
+
+abbrev pub invariant-loop-i : goal.invariant-loop-i
+invariant-loop-i l = (l.i ≤ length l.labels) × (l.count ≤ l.i) × (l.count ≡ heard (take l.i l.labels))
+
+abbrev pub decreases-loop-i : goal.decreases-loop-i
+decreases-loop-i l = length l.labels - l.i
