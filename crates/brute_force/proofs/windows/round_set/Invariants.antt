@@ -1,0 +1,10 @@
+-- `brute_force::windows::round_set` is safe and ends: fewer steps are left at each turn.
+use Rattle.std.proofs.Common.{◌-◌, arith}
+-- `brute_force::windows::round_set` is safe and ends: fewer steps are left at each turn.
+use Rattle.brute_force.proofs.windows.round_set.Given as goal
+
+abbrev pub invariant-loop-step : goal.invariant-loop-step
+invariant-loop-step l = Unit {0}
+
+abbrev pub decreases-loop-step : goal.decreases-loop-step
+decreases-loop-step l = l.ticks - l.step

@@ -1,0 +1,7 @@
+-- `candidates::must_row` meets its contract: the mark alone is raised.
+use mathlib.Core.Path.{refl}
+use borrow.Author.Rules.{rules}
+use Rattle.candidates.proofs.must_row.Goals as goal
+
+pub returns : goal.returns
+returns c = rw c.raise.ensures refl

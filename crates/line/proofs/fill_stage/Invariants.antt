@@ -1,0 +1,15 @@
+-- `fill_stage`: the rows of cells from m on are made.
+use Prim.Native.Nat.{◌+◌, ◌≤◌}
+use mathlib.Core.Path.{◌≡◌, refl}
+use native.Mathlib.Omega.{arith}
+use lib.ListN.{length}
+use Rattle.line.specs.Stage.{Live, new_cell, StageMade}
+use Rattle.line.proofs.Turns.{live_passed, stage_none, stage_more, stage_cell, stage_small}
+use Rattle.line.proofs.fill_stage.Given as goal
+
+abbrev pub invariant-loop-m : goal.invariant-loop-m
+invariant-loop-m l =
+    (l.m ≤ l.k + 1) × (length l.space ≡ length l.initial.space) × StageMade (Live l.ends l.start) (new_cell l.ends l.perm l.start l.next l.k l.initial.space) l.k l.m l.initial.space l.space
+
+abbrev pub decreases-loop-m : goal.decreases-loop-m
+decreases-loop-m l = l.m

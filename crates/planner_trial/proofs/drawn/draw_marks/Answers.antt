@@ -1,0 +1,18 @@
+-- `planner_trial::drawn::draw_marks` is safe and ends: fewer rows are left at each turn.
+use Rattle.std.proofs.Common.{◌-◌, arith, rules}
+use Rattle.planner_trial.proofs.drawn.draw_marks.Goals as goal
+
+pub loop-i-init : goal.loop-i-init
+loop-i-init c = tt
+
+pub next-s-requires : goal.next-s-requires
+next-s-requires c = tt
+
+pub mark-requires : goal.mark-requires
+mark-requires c = tt
+
+pub loop-i-preserved : goal.loop-i-preserved
+loop-i-preserved c = tt
+
+pub returns : goal.returns
+returns c = tt

@@ -1,0 +1,13 @@
+-- `row_lists::move_down` meets its contract: the rows from where the loop has come have moved.
+use Prim.Native.Nat.{◌-◌, ◌≤◌, ◌<◌}
+use mathlib.Core.Path.{◌≡◌, sym, ◌∙◌}
+use native.Mathlib.Omega.{arith}
+use Rattle.basics.specs.Limits.{max_rows}
+use Rattle.row_lists.proofs.Moving.{Down, down_none, down_more, Each, row_in, each_none, each_more}
+use Rattle.row_lists.proofs.move_down.Given as goal
+
+abbrev pub invariant-loop-i : goal.invariant-loop-i
+invariant-loop-i l = (l.k ≤ l.i) × (l.i < l.rows) × (l.rows ≤ max_rows) × Each (Down (l.rows - 1) l.i) l.initial.starts l.initial.ends l.initial.marks l.starts l.ends l.marks
+
+abbrev pub decreases-loop-i : goal.decreases-loop-i
+decreases-loop-i l = l.i

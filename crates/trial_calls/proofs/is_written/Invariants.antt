@@ -1,0 +1,13 @@
+-- `trial_calls::is_written` meets its contract: the places passed hold what is to stand there.
+use Rattle.std.proofs.Common.{◌≡◌, ◌-◌, ◌≤◌, true, eqb, length, sym, refl, ap, ◌∙◌, arith, rules, eq-eqb, ne_eqb}
+use Rattle.basics.specs.Lists.{at}
+use Rattle.basics.specs.Tests.{every}
+use Rattle.basics.proofs.Tests.{every_more, every_fails}
+use Rattle.trial_calls.specs.Judged.{written_at, is_written}
+use Rattle.trial_calls.proofs.is_written.Given as goal
+
+abbrev pub invariant-loop-i : goal.invariant-loop-i
+invariant-loop-i l = (l.i ≤ length l.list) × (every l.i (λ k. eqb (at l.list k) (written_at l.first k)) ≡ true)
+
+abbrev pub decreases-loop-i : goal.decreases-loop-i
+decreases-loop-i l = length l.list - l.i
