@@ -14,12 +14,12 @@ second_best-v-requires c = tried_ready c.loop-w1.invariant c.requires
 
 pub shape_of-left-then-cap-v : goal.shape_of-left-then-cap-v
 shape_of-left-then-cap-v c =
-    c.second_best-v.auto.1.1.1.1.1.1.1.0
+    c.second_best-v.auto.left
     ∙ c.loop-w1.invariant.same_left
 
 pub shape_of-space-then-cap-v : goal.shape_of-space-then-cap-v
 shape_of-space-then-cap-v c =
-    c.second_best-v.auto.1.1.1.1.1.1.1.1.0
+    c.second_best-v.auto.space
     ∙ c.loop-w1.invariant.same_space
 
 pub returns-then-cap-v : goal.returns-then-cap-v
@@ -29,7 +29,7 @@ returns-then-cap-v c =
 
 pub loop-w1-preserved : goal.loop-w1-preserved
 loop-w1-preserved c =
-    tried_more c.loop-w1.invariant c.loop-w1-test.true c.second_best-v.ensures.0 c.second_best-v.auto.1.1.1.1.1.1.1.0 c.second_best-v.auto.1.1.1.1.1.1.1.1.0
+    tried_more c.loop-w1.invariant c.loop-w1-test.true c.second_best-v.ensures.0 c.second_best-v.auto.left c.second_best-v.auto.space
     c.second_best-v.ensures.1 c.larger-best.ensures
 
 pub shape_of-left : goal.shape_of-left

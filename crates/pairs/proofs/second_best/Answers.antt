@@ -14,12 +14,12 @@ pair_best-value-requires c = tried_ready c.loop-w2.invariant c.requires
 
 pub shape_of-left-then-cap-value : goal.shape_of-left-then-cap-value
 shape_of-left-then-cap-value c =
-    c.pair_best-value.auto.1.1.1.1.1.1.1.1.0
+    c.pair_best-value.auto.left
     ∙ c.loop-w2.invariant.same_left
 
 pub shape_of-space-then-cap-value : goal.shape_of-space-then-cap-value
 shape_of-space-then-cap-value c =
-    c.pair_best-value.auto.1.1.1.1.1.1.1.1.1.0
+    c.pair_best-value.auto.space
     ∙ c.loop-w2.invariant.same_space
 
 pub returns-then-cap-value : goal.returns-then-cap-value
@@ -28,7 +28,7 @@ returns-then-cap-value c =
 
 pub loop-w2-preserved : goal.loop-w2-preserved
 loop-w2-preserved c =
-    tried_more c.loop-w2.invariant c.loop-w2-test.true c.pair_best-value.ensures.0 c.pair_best-value.auto.1.1.1.1.1.1.1.1.0 c.pair_best-value.auto.1.1.1.1.1.1.1.1.1.0
+    tried_more c.loop-w2.invariant c.loop-w2-test.true c.pair_best-value.ensures.0 c.pair_best-value.auto.left c.pair_best-value.auto.space
     c.pair_best-value.ensures.1 c.larger-best.ensures
 
 pub shape_of-left : goal.shape_of-left
