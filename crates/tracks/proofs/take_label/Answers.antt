@@ -18,7 +18,7 @@ pub only_label-requires : goal.only_label-requires
 only_label-requires c = tt
 
 pub bounds-perms-i : goal.bounds-perms-i
-bounds-perms-i c = c.requires.row_ready.row-Below
+bounds-perms-i c = c.requires.row_ready.row_below
 
 pub may_have_later-requires : goal.may_have_later-requires
 may_have_later-requires c = c.requires.label_bound
@@ -41,10 +41,10 @@ pub shape_of-perms : goal.shape_of-perms
 shape_of-perms c = simp length-set
 
 pub shape_of-left : goal.shape_of-left
-shape_of-left c = c.capped_best-best.auto.1.1.1.1.1.1.0
+shape_of-left c = c.capped_best-best.auto.left
 
 pub shape_of-space : goal.shape_of-space
-shape_of-space c = c.capped_best-best.auto.1.1.1.1.1.1.1.0
+shape_of-space c = c.capped_best-best.auto.space
 
 pub returns : goal.returns
 returns c =
