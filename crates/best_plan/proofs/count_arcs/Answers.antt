@@ -26,6 +26,6 @@ returns c =
     let g = c.args in
     let core = c.best_count in
      record {
-      count_of_arcs = λ t e v a. count_given t v a (subst (λ x. Most (Assigned x g.arc-starts.now g.arc-lengths.now g.perms.now) core.result) (c.circle_of-circle.ensures ∙ ap circle_of (sym e)) core.ensures.most.0);
+      count_of_arcs = λ t e v a. count_given t v a (subst (λ x. Most (Assigned x g.arc_starts.now g.arc_lengths.now g.perms.now) core.result) (c.circle_of-circle.ensures ∙ ap circle_of (sym e)) core.ensures.most.0);
       space_unchanged = core.ensures.most.1;
     }

@@ -27,7 +27,7 @@ returns-then-best-eq0 c =
 pub set_labels-requires : goal.set_labels-requires
 set_labels-requires c =
     let core = c.best_assignment-best in
-    c.requires.checked.each_label ∙ sym c.set_arcs.ensures.lists.each_perm ∙ sym core.auto.1.1.1.0
+    c.requires.checked.each_label ∙ sym c.set_arcs.ensures.lists.each_perm ∙ sym core.auto.perms
 
 pub returns : goal.returns
 returns c =

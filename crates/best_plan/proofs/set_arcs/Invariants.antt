@@ -14,8 +14,8 @@ abbrev pub invariant-loop-i : goal.invariant-loop-i
 invariant-loop-i l =
     let t = table l.setting l.starts l.ends l.marks in
     (l.i ≤ length l.starts)
-    × Filled (λ k. (arc_of l.setting (row_at t k)).start) l.i arc-starts₀ arc-starts
-    × Filled (λ k. (arc_of l.setting (row_at t k)).length) l.i arc-lengths₀ arc-lengths
+    × Filled (λ k. (arc_of l.setting (row_at t k)).start) l.i l.initial.arc_starts l.arc_starts
+    × Filled (λ k. (arc_of l.setting (row_at t k)).length) l.i l.initial.arc_lengths l.arc_lengths
     × Filled (λ k. permission_of l.setting (row_at t k)) l.i l.initial.perms l.perms
 
 abbrev pub decreases-loop-i : goal.decreases-loop-i
