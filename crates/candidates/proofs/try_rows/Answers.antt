@@ -41,7 +41,7 @@ loop-j-preserved c =
       omega arith,
       filled_more l.1 (omega (arith, p.each_number)) (ap (λ (x : Tried). x.number) e),
       filled_more l.2 (omega (arith, p.each_count)) (ap (λ (x : Tried). x.count) e),
-      r.auto.1.1.1.1.1.0 ∙ l.3,
+      r.auto.space ∙ l.3,
       r.ensures.space_unchanged ∙ l.4,
     )
 
@@ -58,7 +58,7 @@ pub returns : goal.returns
 returns c =
     let l = c.loop-j.invariant in
     let p = c.requires.candidates_lent in
-    let n = length c.args.candidate-starts.now in
+    let n = length c.args.candidate_starts.now in
      record {
       value = omega arith;
       numbers_after = filled_list n p.each_number (omega arith) l.1;

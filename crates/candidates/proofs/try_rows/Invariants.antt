@@ -13,7 +13,7 @@ use Rattle.candidates.proofs.try_rows.Given as goal
 abbrev pub invariant-loop-j : goal.invariant-loop-j
 invariant-loop-j l =
     let t = table l.setting l.starts l.ends l.marks in
-    let c = candidates candidate-starts candidate-ends candidate-marks in
+    let c = candidates l.candidate_starts l.candidate_ends l.candidate_marks in
     (l.j ≤ size c)
     × Filled (λ k. (tried t (candidate_at c k)).number) l.j l.initial.numbers l.numbers
     × Filled (λ k. (tried t (candidate_at c k)).count) l.j l.initial.counts l.counts
@@ -21,4 +21,4 @@ invariant-loop-j l =
     × (drop core_bytes l.space ≡ drop core_bytes l.initial.space)
 
 abbrev pub decreases-loop-j : goal.decreases-loop-j
-decreases-loop-j l = length candidate-starts - l.j
+decreases-loop-j l = length l.candidate_starts - l.j
