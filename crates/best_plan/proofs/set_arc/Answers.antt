@@ -1,6 +1,5 @@
 -- `best_plan::set_arc` meets its contract: what is written is the arc and the permission of the row.
 use mathlib.Core.Path.{refl}
-use borrow.Author.Rules.{rules}
 use Rattle.best_plan.proofs.set_arc.Goals as goal
 
 pub returns : goal.returns

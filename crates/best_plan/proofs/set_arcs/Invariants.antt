@@ -1,13 +1,9 @@
 -- `best_plan::set_arcs` meets its contract: the arcs and permissions of the rows passed are written.
-use Rattle.best_plan.proofs.Rows.{arcs_set}
-use Rattle.basics.proofs.Filling.{Filled, filled_none, filled_more}
-use Rattle.window.specs.declared.Row.{Row}
+use Rattle.basics.proofs.Filling.{Filled}
 use Rattle.best_plan.specs.Rows.{arc_of, permission_of}
 use Rattle.table.specs.Tables.{table, row_at}
 use lib.ListN.{length}
-use mathlib.Core.Path.{ap}
 use Prim.Native.Nat.{◌≤◌, ◌-◌}
-use native.Mathlib.Omega.{arith}
 use Rattle.best_plan.proofs.set_arcs.Given as goal
 
 abbrev pub invariant-loop-i : goal.invariant-loop-i

@@ -5,7 +5,6 @@ use mathlib.Core.List.{List}
 use native.Mathlib.Omega.{arith}
 use lib.ListN.{length, drop, length-drop}
 use lib.Seq.{length-take-le}
-use borrow.Author.Rules.{rules}
 use Rattle.table.specs.Tables.{Table, table, rows}
 use Rattle.table.specs.Changes.{with_row}
 use Rattle.table.proofs.Changes.{rows_with_row}
@@ -42,7 +41,7 @@ slice_bounds-set_arcs-end-6 c = sym (length-take-le _ _ (first (table c.args.set
 pub set_arcs-requires : goal.set_arcs-requires
 set_arcs-requires c =
     let t = table c.args.setting c.args.starts.now c.args.ends.now c.args.marks.now in
-    let p = c.requires.arc_lists in  record {
+    let p = c.requires.arc_lists in record {
       valid = c.requires.valid_with.valid;
       arc_lists = record {
         each_start = length-take-le _ _ (first t c.args.row c.args.arc_starts.now p.each_start);
@@ -54,7 +53,7 @@ set_arcs-requires c =
 pub set_arc-requires : goal.set_arc-requires
 set_arc-requires c =
     let p = c.requires in
-    let fits = rows_with_row (table c.args.setting c.args.starts.now c.args.ends.now c.args.marks.now) c.args.row in  record {
+    let fits = rows_with_row (table c.args.setting c.args.starts.now c.args.ends.now c.args.marks.now) c.args.row in record {
       has_arc = record { setting = p.valid_with.valid.setting; valid = p.valid_with.new };
       arc_place = record { start = omega (arith, p.arc_lists.each_start, fits); ticks = omega (arith, p.arc_lists.each-length, fits); perm = omega (arith, p.arc_lists.each_perm, fits) };
     }

@@ -6,7 +6,6 @@ use Rattle.refusals.specs.Refusals.{number_of}
 use Rattle.table.specs.Tables.{table}
 use Rattle.candidates.specs.Tried.{candidates, called}
 use Rattle.candidates.proofs.Answering.{lists_refuse, space_refuses, candidates_checked, lent_refused, lent_passed, table_lent, candidates_lent}
-use borrow.Author.Rules.{rules}
 use Rattle.candidates.proofs.try_each.Goals as goal
 
 pub returns-then-number-ne0 : goal.returns-then-number-ne0
@@ -45,7 +44,7 @@ try_table-requires c =
     let l = candidates g.candidate_starts.now g.candidate_ends.now g.candidate_marks.now in
     let lists = sym (ap number_of c.check_lists-refusal.ensures) ∙ sym c.number.ensures ∙ c.if-number-ne0.false in
     let answers = sym (ap number_of c.check_candidates-refusal2.ensures) ∙ sym c.number-2.ensures ∙ c.if-number-ne0-2.false in
-     record {
+    record {
       table_lent = table_lent t l g.numbers.now g.counts.now g.space.now lists (omega (arith, c.if-space-lt-SPACE_BYTES.false));
       candidates_lent = candidates_lent t l g.numbers.now g.counts.now g.space.now answers;
     }

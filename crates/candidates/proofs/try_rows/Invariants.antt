@@ -1,12 +1,10 @@
 -- `candidates::try_rows` meets its contract: the candidates passed have their answers.
 use Prim.Native.Nat.{◌≤◌, ◌-◌}
-use mathlib.Core.Path.{◌≡◌, refl, ap, ◌∙◌}
-use native.Mathlib.Omega.{arith}
+use mathlib.Core.Path.{◌≡◌}
 use lib.ListN.{length, drop}
-use Rattle.basics.proofs.Filling.{Filled, filled_none, filled_more, filled_list}
+use Rattle.basics.proofs.Filling.{Filled}
 use Rattle.line.specs.Cells.{core_bytes}
 use Rattle.table.specs.Tables.{table}
-use Rattle.candidates.specs.declared.Tried.{Tried}
 use Rattle.candidates.specs.Tried.{tried, candidates, size, candidate_at}
 use Rattle.candidates.proofs.try_rows.Given as goal
 

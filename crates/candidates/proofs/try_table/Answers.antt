@@ -11,7 +11,6 @@ use Rattle.table.proofs.Checked.{table_8, table_passed, table_looked_rows}
 use Rattle.best_plan.proofs.Clearing.{space_cleared}
 use Rattle.candidates.specs.Tried.{candidates, rows_with, called, answers}
 use Rattle.candidates.proofs.Answering.{checks_passed, table_stops, table_8_reported, table_taken, rows_read, read_most, refused_so, no_plan_so, accepted_so}
-use borrow.Author.Rules.{rules}
 use Rattle.candidates.proofs.try_table.Goals as goal
 
 pub returns-then-number-ne0 : goal.returns-then-number-ne0
@@ -56,7 +55,7 @@ answer_rows-read-requires c =
     let t = table g.setting g.starts.now g.ends.now g.marks.now in
     let l = candidates g.candidate_starts.now g.candidate_ends.now g.candidate_marks.now in
     let passed = checks_passed t l c.check_table-looked.ensures c.number.ensures c.if-number-ne0.false in
-     record {
+    record {
       table_passed = record { lent = record { few = q.few; each_end = q.each_end; each_mark = q.each_mark; room = omega (arith, q.room, c.count_checked-table_best.auto.space) }; looked = passed };
       candidates_lent = p.candidates_lent;
     }

@@ -1,12 +1,10 @@
 -- `pairs::leave` meets its contract: the loop has written what the pair leaves of the permissions that it passed, none of them 0.
-use Prim.Native.Nat.{ℕ, ◌≤◌, ◌-◌}
-use mathlib.Core.Path.{◌≡◌, refl, sym, subst, ◌∙◌}
+use Prim.Native.Nat.{ℕ}
+use mathlib.Core.Path.{refl, sym, subst, ◌∙◌}
 use mathlib.Core.Bool.{false≢true}
 use native.Mathlib.Omega.{arith}
-use borrow.Author.Rules.{rules}
-use lib.ListN.{length, length-set}
-use Rattle.basics.specs.Lists.{at}
-use Rattle.pairs.specs.Pairs.{gathered, left_of, LeftAll}
+use lib.ListN.{length-set}
+use Rattle.pairs.specs.Pairs.{gathered, LeftAll}
 use Rattle.pairs.proofs.Leaves.{left_all_none, left_all_more, left_gathered}
 use Rattle.pairs.proofs.leave.Goals as goal
 
@@ -23,8 +21,8 @@ pub returns-then-kept-eq0 : goal.returns-then-kept-eq0
 returns-then-kept-eq0 c =
     let a = c.args in
     let kept =
-        left_gathered a.positions.now a.ends.now a.m a.w1 a.w2 a.order.now a.perms.now c.loop-k.k c.wide-row.result _ (omega arith)
-        c.wide-row.ensures c.left_of-kept.ensures in
+    left_gathered a.positions.now a.ends.now a.m a.w1 a.w2 a.order.now a.perms.now c.loop-k.k c.wide-row.result _ (omega arith)
+    c.wide-row.ensures c.left_of-kept.ensures in
     record {
       all = λ e. absurd (false≢true e);
       none = λ e. (c.loop-k.k, omega arith, sym kept ∙ c.if-kept-eq0.true);
@@ -35,8 +33,8 @@ loop-k-preserved c =
     let a = c.args in
     let l = c.loop-k in
     let kept =
-        left_gathered a.positions.now a.ends.now a.m a.w1 a.w2 a.order.now a.perms.now l.k c.wide-row.result _ (omega arith)
-        c.wide-row.ensures c.left_of-kept.ensures in (
+    left_gathered a.positions.now a.ends.now a.m a.w1 a.w2 a.order.now a.perms.now l.k c.wide-row.result _ (omega arith)
+    c.wide-row.ensures c.left_of-kept.ensures in (
       omega arith,
       simp length-set l.invariant.1,
       left_all_more a.positions.now a.ends.now a.m a.w1 a.w2 (gathered a.order.now a.perms.now) l.k _ (omega arith) kept c.if-kept-eq0.false l.invariant.2,

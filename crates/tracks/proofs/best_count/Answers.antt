@@ -18,7 +18,7 @@ pub shape_of-space : goal.shape_of-space
 shape_of-space c = c.solve.auto.space
 
 pub returns : goal.returns
-returns c = let s = c.solve.ensures in  record {
-      most = (s.solved.most, s.space_unchanged);
-      perms_unchanged = s.solved.kept refl;
-    }
+returns c = let s = c.solve.ensures in record {
+  most = (s.solved.most, s.space_unchanged);
+  perms_unchanged = s.solved.kept refl;
+}

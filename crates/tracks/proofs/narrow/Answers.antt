@@ -1,11 +1,8 @@
 -- `tracks::narrow` meets its contract: a turn narrows one row more.
-use Prim.Native.Nat.{◌-◌}
 use native.Mathlib.Omega.{arith}
-use lib.ListN.{length}
-use Rattle.tracks.specs.Narrowing.{Ordered}
 use Rattle.pairs.proofs.Trials.{ready_again}
 use Rattle.tracks.proofs.Trying.{ready_for}
-use Rattle.tracks.proofs.Progress.{Progress, progress_none, progress_more, progress_done}
+use Rattle.tracks.proofs.Progress.{progress_none, progress_more, progress_done}
 use Rattle.tracks.proofs.narrow.Goals as goal
 
 pub loop-i-init : goal.loop-i-init
@@ -40,7 +37,7 @@ pub shape_of-space : goal.shape_of-space
 shape_of-space c = c.loop-i.invariant.each_space
 
 pub returns : goal.returns
-returns c =  record {
-      narrowed = progress_done c.loop-i.invariant c.loop-i-test.false;
-      space_unchanged = c.loop-i.invariant.frame;
-    }
+returns c = record {
+  narrowed = progress_done c.loop-i.invariant c.loop-i-test.false;
+  space_unchanged = c.loop-i.invariant.frame;
+}

@@ -10,10 +10,10 @@ pub bounds-perms-i : goal.bounds-perms-i
 bounds-perms-i c = c.requires.row_below
 
 pub take_label-requires : goal.take_label-requires
-take_label-requires c =  record {
-      row_ready = c.requires;
-      label_bound = lit≤ tt;
-    }
+take_label-requires c = record {
+  row_ready = c.requires;
+  label_bound = lit≤ tt;
+}
 
 pub shape_of-perms-then-take_label : goal.shape_of-perms-then-take_label
 shape_of-perms-then-take_label c = c.take_label.auto.perms
@@ -27,7 +27,7 @@ shape_of-space-then-take_label c = c.take_label.auto.space
 pub returns-then-take_label : goal.returns-then-take_label
 returns-then-take_label c =
     let t = c.take_label.ensures in
-     record {
+    record {
       chosen = chosen_1 t.tried c.if-take_label.true;
       perms_after = (t.tried.yes c.if-take_label.true).0;
       space_unchanged = t.space_unchanged;
@@ -36,7 +36,7 @@ returns-then-take_label c =
 pub take_label-requires-2 : goal.take_label-requires-2
 take_label-requires-2 c =
     let t = c.take_label in
-     record {
+    record {
       row_ready = row_again c.requires t.auto.perms t.auto.left t.auto.space t.ensures.space_unchanged;
       label_bound = lit≤ tt;
     }
@@ -54,7 +54,7 @@ pub returns-then-take_label-2 : goal.returns-then-take_label-2
 returns-then-take_label-2 c =
     let t = c.take_label.ensures in
     let u = c.take_label-2.ensures in
-     record {
+    record {
       chosen = chosen_2 t.tried u.tried c.if-take_label.false c.if-take_label-2.true;
       perms_after = set_2 t.tried u.tried c.if-take_label-2.true;
       space_unchanged = u.space_unchanged ∙ t.space_unchanged;
@@ -83,7 +83,7 @@ pub returns : goal.returns
 returns c =
     let t = c.take_label.ensures in
     let u = c.take_label-2.ensures in
-     record {
+    record {
       chosen = chosen_0 t.tried u.tried c.if-take_label.false c.if-take_label-2.false;
       perms_after = rw c.only_label.ensures (set_0 t.tried u.tried (only 0));
       space_unchanged = u.space_unchanged ∙ t.space_unchanged;

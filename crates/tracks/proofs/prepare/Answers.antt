@@ -1,14 +1,13 @@
 -- `tracks::prepare` meets its contract: the rows that do not cross the cut stand behind the m that do.
 use mathlib.Core.Path.{sym, ◌∙◌}
-use borrow.Author.Rules.{rules}
 use Rattle.tracks.proofs.Answer.{take_drop, suffixes}
 use Rattle.tracks.proofs.prepare.Goals as goal
 
 pub arrange-m-requires : goal.arrange-m-requires
-arrange-m-requires c =  record {
-      arcs = c.requires.arcs;
-      order_len = c.requires.order_len;
-    }
+arrange-m-requires c = record {
+  arcs = c.requires.arcs;
+  order_len = c.requires.order_len;
+}
 
 pub set_lows-requires : goal.set_lows-requires
 set_lows-requires c =

@@ -18,7 +18,7 @@ slice_bounds-solve_lent-end-2 c = sym (length-take-le _ _ c.requires.arcs.few)
 pub solve_lent-requires : goal.solve_lent-requires
 solve_lent-requires c =
     let p = c.requires in
-     record {
+    record {
       lent = p;
       order_len = (length-take-le _ _ p.arcs.few, length-take-le _ _ p.arcs.few);
     }

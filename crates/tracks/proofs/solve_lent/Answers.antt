@@ -10,7 +10,7 @@ use Rattle.tracks.proofs.solve_lent.Goals as goal
 
 pub prepare-m-requires : goal.prepare-m-requires
 prepare-m-requires c =
-     record {
+    record {
       arcs = c.requires.lent.arcs;
       order_len = c.requires.order_len.0;
       core_bytes_in_bounds = c.requires.lent.room;
@@ -50,7 +50,7 @@ pub returns-then-best-gt0 : goal.returns-then-best-gt0
 returns-then-best-gt0 c =
     let p = c.prepare-m in
     let k = c.capped_best-best in
-    let w = c.narrow in  record {
+    let w = c.narrow in record {
       solved = rw c.if-narrowing.true (solved_narrowed c.requires.lent.arcs p.ensures.arranged c.args.perms.now c.requires.lent.each_perm (lit≤ tt) k.ensures.0 (omega (arith, c.if-best-gt0.true)) w.ensures.narrowed);
       space_unchanged = frame_wider p.new.space w.new.space (w.ensures.space_unchanged ∙ k.ensures.1) ∙ p.ensures.frame;
     }
@@ -73,7 +73,7 @@ shape_of-space-else-best-gt0 c = c.capped_best-best.auto.space ∙ c.prepare-m.a
 pub returns-else-best-gt0 : goal.returns-else-best-gt0
 returns-else-best-gt0 c =
     let p = c.prepare-m in
-    let k = c.capped_best-best in  record {
+    let k = c.capped_best-best in record {
       solved = rw c.if-narrowing.true (solved_none c.requires.lent.arcs p.ensures.arranged c.args.perms.now c.requires.lent.each_perm (lit≤ tt) k.ensures.0 (omega (arith, c.if-best-gt0.false)));
       space_unchanged = frame_wider p.new.space k.new.space k.ensures.1 ∙ p.ensures.frame;
     }
@@ -96,7 +96,7 @@ shape_of-space-else-narrowing c = c.capped_best-best.auto.space ∙ c.prepare-m.
 pub returns-else-narrowing : goal.returns-else-narrowing
 returns-else-narrowing c =
     let p = c.prepare-m in
-    let k = c.capped_best-best in  record {
+    let k = c.capped_best-best in record {
       solved = rw c.if-narrowing.false (solved_count c.requires.lent.arcs p.ensures.arranged c.args.perms.now c.requires.lent.each_perm (lit≤ tt) k.ensures.0);
       space_unchanged = frame_wider p.new.space k.new.space k.ensures.1 ∙ p.ensures.frame;
     }

@@ -9,10 +9,10 @@ pub may_have-requires : goal.may_have-requires
 may_have-requires c = tt
 
 pub returns-then-not-may_have : goal.returns-then-not-may_have
-returns-then-not-may_have c =  record {
-      tried = tried_barred (sym c.may_have.ensures ∙ not-true _ c.if-not-may_have.true-raw);
-      space_unchanged = refl;
-    }
+returns-then-not-may_have c = record {
+  tried = tried_barred (sym c.may_have.ensures ∙ not-true _ c.if-not-may_have.true-raw);
+  space_unchanged = refl;
+}
 
 pub only_label-requires : goal.only_label-requires
 only_label-requires c = tt
@@ -27,10 +27,10 @@ pub shape_of-perms-then-not-may_have_later : goal.shape_of-perms-then-not-may_ha
 shape_of-perms-then-not-may_have_later c = simp length-set
 
 pub returns-then-not-may_have_later : goal.returns-then-not-may_have_later
-returns-then-not-may_have_later c =  record {
-      tried = rw c.only_label.ensures (tried_last (c.may_have_later.ensures (not-true _ c.if-not-may_have_later.true-raw)));
-      space_unchanged = refl;
-    }
+returns-then-not-may_have_later c = record {
+  tried = rw c.only_label.ensures (tried_last (c.may_have_later.ensures (not-true _ c.if-not-may_have_later.true-raw)));
+  space_unchanged = refl;
+}
 
 pub capped_best-best-requires : goal.capped_best-best-requires
 capped_best-best-requires c =
@@ -50,7 +50,7 @@ pub returns : goal.returns
 returns c =
     let e = c.only_label.ensures in
     let K = c.capped_best-best.ensures in
-     record {
+    record {
       tried = rw e (tried_asked (sym c.may_have.ensures ∙ not-false _ c.if-not-may_have.false-raw) (rw e at K.0));
       space_unchanged = K.1;
     }
