@@ -2,7 +2,6 @@
 use Prim.Native.Nat.{ℕ, ◌+◌}
 use mathlib.Core.Path.{ap, ap₂, ◌∙◌}
 use native.Mathlib.Omega.{arith}
-use borrow.Author.Rules.{rules}
 use Rattle.window.proofs.Meaning.{ticks_most}
 use Rattle.best_plan.specs.declared.Arc.{Arc}
 use Rattle.best_plan.specs.Rows.{cut_off, arc_of}
