@@ -71,12 +71,12 @@ mark_of-requires c =
     let n = next a.tape.now a.rows l.at l.row l.invariant.2 c.loop-row-test.true in
     n.row.command
 
-pub overflow_add-at : goal.overflow_add-at
-overflow_add-at c =
+pub overflow_add-at-in-loop-row-2 : goal.overflow_add-at-in-loop-row-2
+overflow_add-at-in-loop-row-2 c =
     let l = c.loop-row in
     let a = c.args in
     let n = next a.tape.now a.rows l.at l.row l.invariant.2 c.loop-row-test.true in
-    omega (arith, c.operand-bytes.ensures, n.row.width)
+    omega (arith, c.operand_bytes.ensures, n.row.width)
 
 pub overflow_add-at-in-loop-row-3 : goal.overflow_add-at-in-loop-row-3
 overflow_add-at-in-loop-row-3 c =
