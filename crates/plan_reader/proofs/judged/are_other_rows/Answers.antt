@@ -3,6 +3,7 @@ use Prim.Native.Nat.{◌-◌}
 use mathlib.Core.Path.{◌≡◌, refl, sym, ◌∙◌}
 use native.Mathlib.Omega.{arith}
 use borrow.Author.Rules.{rules}
+use borrow.Enum.Refused.{opened}
 use borrow.Author.Tests.{not-true, not-false}
 use lib.ListN.{length, drop}
 use Rattle.plan_tape.specs.Stated.{listens_in}
@@ -15,7 +16,7 @@ unfolding are_other
 returns-in_default c =
     let l = c.loop-row in
     let a = c.args in
-    sym (l.invariant ∙ rw (no_listen a.tape.now l.at c.item_at-item.ensures c.in_default.in_default-own.keys2).listens refl)
+    sym (l.invariant ∙ rw (no_listen a.tape.now l.at c.item_at-item.ensures (opened c.in_default.in_default-own.keys2)).listens refl)
 
 pub returns-then-not-is_row_free : goal.returns-then-not-is_row_free
 unfolding are_other

@@ -3,6 +3,7 @@ use Prim.Native.Nat.{◌-◌}
 use mathlib.Core.Path.{◌≡◌, refl, sym, ◌∙◌}
 use native.Mathlib.Omega.{arith}
 use borrow.Author.Rules.{rules}
+use borrow.Enum.Refused.{opened}
 use borrow.Author.Tests.{eq-eqb, ne_eqb}
 use lib.ListN.{length, drop}
 use Rattle.plan_tape.specs.Stated.{listens_in}
@@ -15,7 +16,7 @@ unfolding all_of
 returns-in_default c =
     let l = c.loop-other in
     let a = c.args in
-    sym (l.invariant ∙ rw (no_listen a.tape.now l.at c.item_at-item.ensures c.in_default.in_default-own.keys2).listens refl)
+    sym (l.invariant ∙ rw (no_listen a.tape.now l.at c.item_at-item.ensures (opened c.in_default.in_default-own.keys2)).listens refl)
 
 pub returns-then-row-other : goal.returns-then-row-other
 unfolding all_of
