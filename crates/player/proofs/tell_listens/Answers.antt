@@ -3,6 +3,7 @@ use Prim.Native.Nat.{◌-◌}
 use mathlib.Core.Path.{◌≡◌, refl, sym, ◌∙◌}
 use native.Mathlib.Omega.{arith}
 use borrow.Author.Rules.{rules}
+use borrow.Enum.Refused.{opened}
 use lib.ListN.{length, drop}
 use Rattle.plan_tape.specs.Stated.{listens_in, after_listens}
 use Rattle.plan_reader.proofs.Listens.{listen_at_of, no_listen}
@@ -18,7 +19,7 @@ unfolding telling
 returns-in_default c =
     let l = c.loop-row in
     let a = c.args in
-    let n = no_listen a.tape.now l.at c.item_at-item.ensures c.in_default.in_default-own.keys2 in
+    let n = no_listen a.tape.now l.at c.item_at-item.ensures (opened c.in_default.in_default-own.keys2) in
      record {
       receiver_value = sym (l.invariant.0 ∙ rw n.listens refl);
       tape_value = sym (l.invariant.1 ∙ n.rest);
