@@ -6,7 +6,6 @@ use Rattle.fleet_tape.specs.declared.Scanned.TheVariants.{Count, Broken}
 use Rattle.fleet_tape.specs.Form.{rows_in}
 use Rattle.fleet_tape.specs.Scan.{counted}
 use Rattle.fleet_tape.proofs.Judged.{reading_same, read_broken, read_many, read_taken}
-use borrow.Author.Rules.{rules}
 use Rattle.fleet_tape.proofs.read_rows.Goals as goal
 
 pub returns-then-rows-gt-MAX_ROWS : goal.returns-then-rows-gt-MAX_ROWS

@@ -1,6 +1,5 @@
 -- `plan_reader::ticks_of` meets its contract: the head of the tape has R, if there is one.
 use mathlib.Core.Path.{sym}
-use borrow.Author.Rules.{rules}
 use borrow.Enum.Refused.{opened}
 use Rattle.plan_tape.specs.Stated.{ticks_at}
 use Rattle.plan_reader.proofs.Begun.{head_in, no_head}

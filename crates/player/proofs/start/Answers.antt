@@ -1,7 +1,6 @@
 -- `player::start` meets its contract: the two checks in their order, and request 1 of what they give.
 use mathlib.Core.Path.{refl, sym, ◌∙◌}
 use native.Mathlib.Omega.{arith}
-use borrow.Author.Rules.{rules}
 use borrow.Author.Tests.{lt-ltb, le-ltb, not-true, not-false}
 use Rattle.refusals.specs.declared.Refusal.TheVariants.{Accepted}
 use Rattle.player.specs.Played.{player_at, start_refusal, starting, started}

@@ -1,6 +1,5 @@
 -- `player::step` meets its contract: the head of the tape and one test tell whether the player moves.
 use mathlib.Core.Path.{◌∙◌}
-use borrow.Author.Rules.{rules}
 use borrow.Enum.Refused.{opened}
 use Rattle.plan_reader.proofs.Begun.{head_in, no_head}
 use Rattle.player.proofs.Steps.{step_headless, step_rests, step_moves}

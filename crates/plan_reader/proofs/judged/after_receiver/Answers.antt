@@ -1,5 +1,4 @@
 -- `plan_reader::judged::after_receiver` meets its contract: the item at the place tells whether the RECEIVER stands there.
-use borrow.Author.Rules.{rules}
 use borrow.Enum.Refused.{opened}
 use borrow.Author.Tests.{eq-eqb, ne_eqb}
 use Rattle.plan_reader.specs.Judged.{is_receiver}

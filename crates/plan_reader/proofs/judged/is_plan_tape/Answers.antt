@@ -1,7 +1,6 @@
 -- `plan_reader::judged::is_plan_tape` meets its contract: the places that it finds are those of the tape's parts, and each test is a clause of `is_plan_tape`. What that means is `taken_iff`.
 use mathlib.Core.Path.{refl, sym, ◌∙◌}
 use native.Mathlib.Omega.{arith}
-use borrow.Author.Rules.{rules}
 use borrow.Enum.Refused.{opened}
 use borrow.Author.Tests.{not-true, not-false}
 use Rattle.plan_reader.proofs.Begun.{head_in, no_head, under, not_under, tested}
