@@ -1,5 +1,5 @@
 -- `fleet_tape::read_rows` meets its contract: by what `count_rows` found.
--- In an answer k is the place where the number of rows is known, and a is the arguments.
+-- In an answer a is the arguments.
 use mathlib.Core.Path.{◌≡◌, refl, sym, ◌∙◌}
 use native.Mathlib.Omega.{arith}
 use lib.ListN.{drop}

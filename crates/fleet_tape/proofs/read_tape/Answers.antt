@@ -1,5 +1,5 @@
 -- `fleet_tape::read_tape` meets its contract: by what the lists and the head of the tape told, and then by `read_rows`.
--- In an answer p, n, r and h are the places after the tests for the lists, ROUND, RUN and HOURS, and a is the arguments.
+-- In an answer a is the arguments.
 use mathlib.Core.Path.{◌≡◌, refl, sym, ◌∙◌}
 use mathlib.Core.Bool.{Bool, true, false, not}
 use native.Mathlib.Omega.{arith}
