@@ -9,6 +9,7 @@ mod compared;
 mod counted;
 
 use compared::Tally;
+use std::io;
 use trial_report::{print, print_group};
 
 // "For every R from 2 to 43,200".
@@ -103,23 +104,25 @@ fn of_rounds(chosen: Chosen, longest: u16) -> Tally {
     tally
 }
 
-fn print_tally(tally: Tally) {
-    print_group(b"  distances", tally.distances);
-    print(b"  the tick at the start ", tally.at);
-    print(b"  after it ", tally.after);
-    print(b"  before it ", tally.before);
-    print(b"  the tick plus R beyond 16 bits ", tally.beyond);
+fn print_tally(rt: &impl Print, tally: Tally) -> io::Result<()> {
+    print_group(rt, b"  distances", tally.distances)?;
+    print(rt, b"  the tick at the start ", tally.at)?;
+    print(rt, b"  after it ", tally.after)?;
+    print(rt, b"  before it ", tally.before)?;
+    print(rt, b"  the tick plus R beyond 16 bits ", tally.beyond)
 }
 
-fn main() {
+fn main(rt: HostRuntime) -> io::Result<()> {
     print(
+        &rt,
         b"every two ticks, by steps, of each R from 2 to ",
         SHORT as u32,
-    );
-    print_tally(of_rounds(Chosen::Every, SHORT));
+    )?;
+    print_tally(&rt, of_rounds(Chosen::Every, SHORT))?;
     print(
+        &rt,
         b"two of the first, middle and last ticks, by the remainder, of each R from 2 to ",
         LONGEST as u32,
-    );
-    print_tally(of_rounds(Chosen::Six, LONGEST));
+    )?;
+    print_tally(&rt, of_rounds(Chosen::Six, LONGEST))
 }

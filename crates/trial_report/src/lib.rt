@@ -3,6 +3,8 @@
 
 ghost use Rattle.std.specs.Prelude.{◌≡◌, ◌+◌, ◌%◌, ◌^◌, if◌then◌else◌};
 
+use std::io;
+
 // One more if the fact holds.
 pub fn more(count: u32, fact: bool) -> u32
     ensures { result ≡ (if fact then (count + 1) % 2 ^ 32 else count) }
@@ -15,24 +17,22 @@ pub fn more(count: u32, fact: bool) -> u32
 }
 
 // Words within a line.
-pub fn print_words(words: &[u8]) {
-    io::write_all(1, words);
+pub fn print_words(rt: &impl Print, words: &[u8]) -> io::Result<()> {
+    rt.write_all(words)
 }
 
 // A line of words and a number.
-pub fn print(words: &[u8], n: u32) {
-    io::write_all(1, words);
-    io::print_decimal(1, n as u64);
-    io::write_all(1, b"\n");
+pub fn print(rt: &impl Print, words: &[u8], n: u32) -> io::Result<()> {
+    rt.write_all(words)?;
+    println!(rt; "{n}")
 }
 
 // A line of words and two numbers.
-pub fn print_two(words: &[u8], n: u32, words2: &[u8], n2: u32) {
-    io::write_all(1, words);
-    io::print_decimal(1, n as u64);
-    io::write_all(1, words2);
-    io::print_decimal(1, n2 as u64);
-    io::write_all(1, b"\n");
+pub fn print_two(rt: &impl Print, words: &[u8], n: u32, words2: &[u8], n2: u32) -> io::Result<()> {
+    rt.write_all(words)?;
+    print!(rt; "{n}")?;
+    rt.write_all(words2)?;
+    println!(rt; "{n2}")
 }
 
 // The cases of a group that were run, and how many of them differ from what is right.
@@ -62,11 +62,9 @@ pub fn with_case(group: Group, right: bool) -> Group
 }
 
 // A line for a group.
-pub fn print_group(words: &[u8], group: Group) {
-    io::write_all(1, words);
-    io::write_all(1, b": cases ");
-    io::print_decimal(1, group.cases as u64);
-    io::write_all(1, b", differ ");
-    io::print_decimal(1, group.differ as u64);
-    io::write_all(1, b"\n");
+pub fn print_group(rt: &impl Print, words: &[u8], group: Group) -> io::Result<()> {
+    rt.write_all(words)?;
+    let cases = group.cases;
+    let differ = group.differ;
+    println!(rt; ": cases {cases}, differ {differ}")
 }

@@ -1,5 +1,5 @@
 -- `distance_trial::from_start` is safe and ends: R and the start stay, and fewer ticks are left at each turn.
-use Rattle.std.proofs.Common.{◌-◌, ◌<◌, ◌≤◌, arith, rules}
+use Rattle.std.proofs.Common.{◌-◌, ◌<◌, ◌≤◌}
 use Rattle.distance_trial.proofs.from_start.Given as goal
 
 abbrev pub invariant-loop-i : goal.invariant-loop-i

@@ -1,5 +1,5 @@
 -- `distance_trial::of_round` is safe and ends: R stays, and fewer starts are left at each turn.
-use Rattle.std.proofs.Common.{◌-◌, ◌≤◌, arith, rules}
+use Rattle.std.proofs.Common.{◌-◌, ◌≤◌}
 use Rattle.distance_trial.proofs.of_round.Given as goal
 
 abbrev pub invariant-loop-i : goal.invariant-loop-i

@@ -1,5 +1,5 @@
 -- `distance_trial::of_rounds` is safe and ends: fewer rounds are left at each turn.
-use Rattle.std.proofs.Common.{◌-◌, ◌≤◌, arith, rules}
+use Rattle.std.proofs.Common.{◌-◌, ◌≤◌}
 use Rattle.distance_trial.proofs.of_rounds.Given as goal
 
 abbrev pub invariant-loop-ticks : goal.invariant-loop-ticks

@@ -1,5 +1,5 @@
 -- `trial_report::with_case` meets its contract: a case is counted, and counted again if it is not right.
-use Rattle.std.proofs.Common.{◌≡◌, ℕ, ◌+◌, ◌%◌, ◌^◌, Bool, true, false, cond, not, refl, rules}
+use Rattle.std.proofs.Common.{◌≡◌, ℕ, ◌+◌, ◌%◌, ◌^◌, Bool, true, false, cond, not, refl}
 use Rattle.trial_report.proofs.with_case.Goals as goal
 
 exchanged : (b : Bool) (m n : ℕ) → cond (not b) m n ≡ cond b n m

@@ -1,5 +1,4 @@
 -- `brute_force::clashes::between` is safe and ends: fewer steps are left at each turn.
-use Rattle.std.proofs.Common.{◌-◌, arith}
 use Rattle.brute_force.proofs.clashes.between.Goals as goal
 
 pub loop-steps-init : goal.loop-steps-init

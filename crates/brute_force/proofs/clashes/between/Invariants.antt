@@ -1,5 +1,5 @@
 -- `brute_force::clashes::between` is safe and ends: fewer steps are left at each turn.
-use Rattle.std.proofs.Common.{◌-◌, arith}
+use Rattle.std.proofs.Common.{◌-◌}
 use Rattle.brute_force.proofs.clashes.between.Given as goal
 
 abbrev pub invariant-loop-steps : goal.invariant-loop-steps

@@ -1,5 +1,5 @@
 -- `brute_force::clashes::sharing` is safe and ends: fewer rows are left at each turn.
-use Rattle.std.proofs.Common.{◌-◌, arith, rules}
+use Rattle.std.proofs.Common.{◌-◌}
 use Rattle.brute_force.proofs.clashes.sharing.Given as goal
 
 abbrev pub invariant-loop-i : goal.invariant-loop-i

@@ -1,5 +1,4 @@
 -- `brute_force::clashes::with_gap` is safe and ends: fewer rows are left at each turn.
-use Rattle.std.proofs.Common.{◌-◌, arith, rules}
 use Rattle.brute_force.proofs.clashes.with_gap.Goals as goal
 
 pub loop-i-init : goal.loop-i-init

@@ -1,5 +1,4 @@
 -- `brute_force::plans::judge` is safe and ends: fewer rows are left at each turn.
-use Rattle.std.proofs.Common.{arith}
 use Rattle.brute_force.proofs.plans.judge.Goals as goal
 
 pub loop-row-init : goal.loop-row-init

@@ -1,5 +1,4 @@
 -- `brute_force::plans::judge` is safe and ends: fewer rows are left at each turn.
-use Rattle.std.proofs.Common.{arith}
 use Rattle.brute_force.proofs.plans.judge.Given as goal
 
 abbrev pub invariant-loop-row : goal.invariant-loop-row

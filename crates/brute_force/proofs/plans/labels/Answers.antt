@@ -1,5 +1,4 @@
 -- `brute_force::plans::labels` is safe and ends: fewer rows are left at each turn.
-use Rattle.std.proofs.Common.{arith, rules}
 use Rattle.brute_force.proofs.plans.labels.Goals as goal
 
 pub loop-row-init : goal.loop-row-init

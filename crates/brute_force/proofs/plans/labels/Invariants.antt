@@ -1,5 +1,4 @@
 -- `brute_force::plans::labels` is safe and ends: fewer rows are left at each turn.
-use Rattle.std.proofs.Common.{arith, rules}
 use Rattle.brute_force.proofs.plans.labels.Given as goal
 
 abbrev pub invariant-loop-row : goal.invariant-loop-row

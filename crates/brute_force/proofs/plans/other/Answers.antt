@@ -1,5 +1,5 @@
 -- `brute_force::plans::other` meets its contract: the answers first, and the labels where there is a plan.
-use Rattle.std.proofs.Common.{◌≡◌, Bool, true, false, not, sym, refl, ap, rules}
+use Rattle.std.proofs.Common.{◌≡◌, Bool, true, false, not, sym, refl, ap}
 use mathlib.Core.Bool.{false≢true}
 use Rattle.brute_force.proofs.plans.other.Goals as goal
 

@@ -1,5 +1,4 @@
 -- `brute_force::plans::search` is safe and ends: fewer label lists are left at each turn.
-use Rattle.std.proofs.Common.{◌-◌, arith}
 use Rattle.brute_force.proofs.plans.search.Goals as goal
 
 pub lists-number-end-requires : goal.lists-number-end-requires

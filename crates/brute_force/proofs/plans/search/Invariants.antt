@@ -1,5 +1,5 @@
 -- `brute_force::plans::search` is safe and ends: fewer label lists are left at each turn.
-use Rattle.std.proofs.Common.{◌-◌, arith}
+use Rattle.std.proofs.Common.{◌-◌}
 use Rattle.brute_force.proofs.plans.search.Given as goal
 
 abbrev pub invariant-loop-number : goal.invariant-loop-number

@@ -1,5 +1,4 @@
 -- `brute_force::windows::arc_set` is safe and ends: fewer steps are left at each turn.
-use Rattle.std.proofs.Common.{◌-◌, arith}
 -- `brute_force::windows::arc_set` is safe and ends: fewer steps are left at each turn.
 use Rattle.brute_force.proofs.windows.arc_set.Goals as goal
 

@@ -1,5 +1,4 @@
 -- `brute_force::windows::run_set` is safe and ends: fewer ticks are left at each turn.
-use Rattle.std.proofs.Common.{◌-◌, arith}
 use Rattle.brute_force.proofs.windows.run_set.Goals as goal
 
 pub loop-tick-init : goal.loop-tick-init

@@ -1,5 +1,5 @@
 -- `brute_force::windows::run_set` is safe and ends: fewer ticks are left at each turn.
-use Rattle.std.proofs.Common.{◌-◌, arith}
+use Rattle.std.proofs.Common.{◌-◌}
 use Rattle.brute_force.proofs.windows.run_set.Given as goal
 
 abbrev pub invariant-loop-tick : goal.invariant-loop-tick

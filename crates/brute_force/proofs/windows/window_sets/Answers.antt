@@ -1,5 +1,4 @@
 -- `brute_force::windows::window_sets` is safe and ends: fewer rows are left at each turn.
-use Rattle.std.proofs.Common.{◌-◌, arith, rules}
 use Rattle.brute_force.proofs.windows.window_sets.Goals as goal
 
 pub loop-i-init : goal.loop-i-init

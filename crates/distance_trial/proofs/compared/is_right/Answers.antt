@@ -1,5 +1,5 @@
 -- `distance_trial::compared::is_right` meets its contract: what `window::distance` gives is the distance.
-use Rattle.std.proofs.Common.{refl, rules}
+use Rattle.std.proofs.Common.{refl}
 use Rattle.distance_trial.proofs.compared.is_right.Goals as goal
 
 pub returns : goal.returns

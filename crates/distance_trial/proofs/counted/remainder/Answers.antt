@@ -1,5 +1,5 @@
 -- `distance_trial::counted::remainder` is safe: what is left over is below R, so it fits 16 bits.
-use Rattle.std.proofs.Common.{ℕ, ◌+◌, ◌-◌, ◌<◌, mod-lt, arith, rules}
+use Rattle.std.proofs.Common.{ℕ, ◌+◌, ◌-◌, ◌<◌, mod-lt, arith}
 use Rattle.distance_trial.proofs.counted.remainder.Goals as goal
 
 positive : (start ticks : ℕ) → start < ticks → 0 < ticks

@@ -1,5 +1,4 @@
 -- `distance_trial::counted::steps` is safe and ends: fewer steps are left at each turn.
-use Rattle.std.proofs.Common.{◌-◌, arith}
 use Rattle.distance_trial.proofs.counted.steps.Goals as goal
 
 pub loop-steps-init : goal.loop-steps-init

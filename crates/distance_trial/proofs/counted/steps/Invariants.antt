@@ -1,5 +1,5 @@
 -- `distance_trial::counted::steps` is safe and ends: fewer steps are left at each turn.
-use Rattle.std.proofs.Common.{◌-◌, arith}
+use Rattle.std.proofs.Common.{◌-◌}
 use Rattle.distance_trial.proofs.counted.steps.Given as goal
 
 abbrev pub invariant-loop-steps : goal.invariant-loop-steps
