@@ -21,5 +21,5 @@ count_with_lent-requires c =
     let fits = rows_with_row (table c.args.setting c.args.starts.now c.args.ends.now c.args.marks.now) c.args.row in
     record {
       countable_with = p;
-      arc_lists = record { each_start = length-take-le _ _ (omega (arith, p.longer.few)) ∙ sym fits; each-length = length-take-le _ _ (omega (arith, p.longer.few)) ∙ sym fits; each_perm = length-take-le _ _ (omega (arith, p.longer.few)) ∙ sym fits };
+      arc_lists = record { each_start = length-take-le _ _ (omega (arith, p.longer.few)) ∙ sym fits; each_length = length-take-le _ _ (omega (arith, p.longer.few)) ∙ sym fits; each_perm = length-take-le _ _ (omega (arith, p.longer.few)) ∙ sym fits };
     }

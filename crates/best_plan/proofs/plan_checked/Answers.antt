@@ -17,5 +17,5 @@ plan_lent-requires c =
     let p = c.requires in
     record {
       checked = p;
-      arc_lists = record { each_start = length-take-le _ _ p.valid.few; each-length = length-take-le _ _ p.valid.few; each_perm = length-take-le _ _ p.valid.few };
+      arc_lists = record { each_start = length-take-le _ _ p.valid.few; each_length = length-take-le _ _ p.valid.few; each_perm = length-take-le _ _ p.valid.few };
     }

@@ -21,7 +21,7 @@ set_arc-requires c =
     let l = c.loop-i.invariant in
     let h = c.loop-i-test.true in record {
       has_arc = rw c.row_at-row.ensures (record { setting = p.valid.setting; valid = p.valid.row c.loop-i.i h });
-      arc_place = record { start = omega (arith, p.arc_lists.each_start, l.1.each); ticks = omega (arith, p.arc_lists.each-length, l.2.each); perm = omega (arith, p.arc_lists.each_perm, l.3.each) };
+      arc_place = record { start = omega (arith, p.arc_lists.each_start, l.1.each); ticks = omega (arith, p.arc_lists.each_length, l.2.each); perm = omega (arith, p.arc_lists.each_perm, l.3.each) };
     }
 
 pub loop-i-preserved : goal.loop-i-preserved
@@ -34,7 +34,7 @@ loop-i-preserved c =
     rw (stored.arc_starts_after, stored.arc_lengths_after, stored.perms_after) (
       omega arith,
       filled_more l.invariant.1 (omega (arith, lists.each_start)) (ap (λ (r : Row). (arc_of S r).start) row),
-      filled_more l.invariant.2 (omega (arith, lists.each-length)) (ap (λ (r : Row). (arc_of S r).length) row),
+      filled_more l.invariant.2 (omega (arith, lists.each_length)) (ap (λ (r : Row). (arc_of S r).length) row),
       filled_more l.invariant.3 (omega (arith, lists.each_perm)) (ap (permission_of S) row),
     )
 
