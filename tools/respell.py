@@ -34,6 +34,8 @@ OTHERWISE = {
     "word-at": "word_at_drop",
 }
 # The names that port.py turned so, for edits and documents, which it leaves.
+# Fields that the pattern of a declaration passes over.
+FIELDS = {n: n.replace("-", "_") for n in ("each-length", "gap-most", "p1-16", "p2-16", "q1-16", "q2-16")}
 TURNED = """
 add-at add-kept add-low add-row add-spec add-start add-step add-turn add-wide afterHead ahead-in ahead-more alike-same allOf as-long at-after at-before at-from at-map
 at-most-one at-place beside-none best-of bit-below bit-le bit-test both-ends both-iff but-first but-last byte-at bytes-drop bytes-read bytes-rest bytesOf calls-same
@@ -114,8 +116,6 @@ def turned(text, table, in_function):
     return re.sub(TOKEN, one, text)
 
 
-FIELDS = {}
-
 
 def main():
     antt = list(files(".antt", "crates"))
@@ -123,7 +123,7 @@ def main():
     # port.py's spelling of this lemma is what the definition beside it gets
     p = "crates/fleet_tape/proofs/Exact.antt"
     texts[p] = re.sub(r"\bfirst_rows\b", "first_rows_front", texts[p])
-    table = {}
+    table = dict(FIELDS)
     for p, t in texts.items():
         for n in declared(p, t):
             if spelled(n) != n:

@@ -38,5 +38,5 @@ module _ (S : Setting) (row : Row) (v : ValidRow S row) where
       n = ticks_in Run S.ticks row.start row.end
 
       go : {b : Bool} → Test (n + S.gap) (circle_ticks Run S.ticks) b → row.start + cond b (n + S.gap) (circle_ticks Run S.ticks) ≤ circle_ticks Run S.ticks
-      go (pass l) = omega (arith, w.0, w.1, ticks_straight Run S.ticks row.start row.end w w.0, h.gap-most)
-      go (fail l) = absurd (omega (arith, w.1, ticks_straight Run S.ticks row.start row.end w w.0, h.gap-most))
+      go (pass l) = omega (arith, w.0, w.1, ticks_straight Run S.ticks row.start row.end w w.0, h.gap_most)
+      go (fail l) = absurd (omega (arith, w.1, ticks_straight Run S.ticks row.start row.end w w.0, h.gap_most))

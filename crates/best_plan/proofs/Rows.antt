@@ -54,7 +54,7 @@ module _ (S : Setting) where
   pub clash_iff : (row row' : Row) → ValidSetting S → ValidRow S row → ValidRow S row'
       → Clash S row row' ↔ Meet (circle_of S) (arc_of S row).start (arc_of S row).length (arc_of S row').start (arc_of S row').length
   unfolding arc_of
-  clash_iff row row' h v w = close_iff S.kind S.ticks S.gap row.start row.end row'.start row'.end h.gap-most v.window w.window
+  clash_iff row row' h v w = close_iff S.kind S.ticks S.gap row.start row.end row'.start row'.end h.gap_most v.window w.window
 
 -- ---- the table
 
@@ -67,7 +67,7 @@ module _ (t : Table) (valid : Valid t) {starts lengths perms : List ℕ} (arcs :
       record {
         some = circle_some S valid.setting;
         few = omega (arith, valid.few, arcs.lists.each_start);
-        each = arcs.lists.each-length ∙ sym arcs.lists.each_start;
+        each = arcs.lists.each_length ∙ sym arcs.lists.each_start;
         start = λ i h. let k = within i h in rw (arcs.start i k) (arc_start S (row_at t i) (valid.row i k));
         proper = λ i h. let k = within i h in rw (arcs.ticks i k) (arc_proper S (row_at t i) (valid.row i k));
         whole = λ i h. let k = within i h in rw (arcs.ticks i k) (arc_most S (row_at t i) (valid.row i k));
@@ -97,7 +97,7 @@ pub arcs_set : (t : Table) {xs ys zs starts lengths perms : List ℕ} → ArcLis
     → ArcsOf t starts lengths perms
 arcs_set t lists i e a b c =
     record {
-      lists = record { each_start = a.each ∙ lists.each_start; each-length = b.each ∙ lists.each-length; each_perm = c.each ∙ lists.each_perm };
+      lists = record { each_start = a.each ∙ lists.each_start; each_length = b.each ∙ lists.each_length; each_perm = c.each ∙ lists.each_perm };
       start = λ k h. a.done k (omega arith);
       ticks = λ k h. b.done k (omega arith);
       perm = λ k h. c.done k (omega arith);
@@ -132,13 +132,13 @@ module _ (t : Table) (valid : Valid t) (new : Row) {a b c : List ℕ} (arcs : Ar
       let arc_start : Row → ℕ = λ r. (arc_of t.setting r).start in
       let arc-length : Row → ℕ = λ r. (arc_of t.setting r).length in
       let e = arcs.lists.each_start in
-      let f = arcs.lists.each-length in
+      let f = arcs.lists.each_length in
       let g = arcs.lists.each_perm in
       record {
         lists =
             record {
               each_start = each_with t valid new arc_start a ra stored.0 x e;
-              each-length = each_with t valid new arc-length b rb stored.1.0 y f;
+              each_length = each_with t valid new arc-length b rb stored.1.0 y f;
               each_perm = each_with t valid new (permission_of t.setting) c rc stored.1.1 z g;
             };
         start = entry_with t valid new arc_start a ra stored.0 x e arcs.start;

@@ -52,7 +52,7 @@ pub record ArcPlace (i : ℕ) (starts lengths perms : List ℕ) : Type 0 where
 -- lists as long as the table has rows, for their arcs and permissions
 pub record ArcLists (t : Table) (starts lengths perms : List ℕ) : Type 0 where
   pub each_start : length starts ≡ rows t
-  pub each-length : length lengths ≡ rows t
+  pub each_length : length lengths ≡ rows t
   pub each_perm : length perms ≡ rows t
 
 -- they hold the arcs and permissions of the table's rows

@@ -1,5 +1,5 @@
 -- The form that is read from bytes is the fleet tape: `fleet_of` of a fleet tape gives back what the tape states, and a tape of which `fleet_of` gives something is the fleet tape of it.
-use Prim.Native.Nat.{ℕ, suc, ◌+◌, ◌≤◌, ◌<◌}
+use Prim.Native.Nat.{ℕ, suc, ◌≤◌, ◌<◌}
 use mathlib.Core.Path.{◌≡◌, refl, ap, ◌∙◌}
 use mathlib.Core.Bool.{Bool, true, false, cond, ◌&&◌, and-false}
 use mathlib.Core.List.{List, [], ◌∷◌, ◌++◌}
@@ -116,10 +116,10 @@ hours_fits t g =
       p2 = word_at t 5;
       q2 = word_at t 7;
       pairs = refl;
-      p1-16 = joined_16 (get_or t 1 0) (get_or t 2 0) (g 1) (g 2);
-      q1-16 = joined_16 (get_or t 3 0) (get_or t 4 0) (g 3) (g 4);
-      p2-16 = joined_16 (get_or t 5 0) (get_or t 6 0) (g 5) (g 6);
-      q2-16 = joined_16 (get_or t 7 0) (get_or t 8 0) (g 7) (g 8);
+      p1_16 = joined_16 (get_or t 1 0) (get_or t 2 0) (g 1) (g 2);
+      q1_16 = joined_16 (get_or t 3 0) (get_or t 4 0) (g 3) (g 4);
+      p2_16 = joined_16 (get_or t 5 0) (get_or t 6 0) (g 5) (g 6);
+      q2_16 = joined_16 (get_or t 7 0) (get_or t 8 0) (g 7) (g 8);
     }
 
 module _ (s : List ℕ) (h : Bytes s) where
@@ -135,7 +135,7 @@ module _ (s : List ℕ) (h : Bytes s) where
         bytes = spread s 0 3 b.0 ∙ (λ i. b.1 i ∷ high_joined (get_or s 1 0) (get_or s 2 0) (h 2) i ∷ low_joined (get_or s 1 0) (get_or s 2 0) (h 2) i ∷ r.bytes i);
         fit = record {
           ticks_16 = ticks_16;
-          hours_fit = record { p1 = 0; q1 = 0; p2 = 0; q2 = 0; pairs = refl; p1-16 = omega arith; q1-16 = omega arith; p2-16 = omega arith; q2-16 = omega arith };
+          hours_fit = record { p1 = 0; q1 = 0; p2 = 0; q2 = 0; pairs = refl; p1_16 = omega arith; q1_16 = omega arith; p2_16 = omega arith; q2_16 = omega arith };
           rows_fit = r.fit;
         };
       }

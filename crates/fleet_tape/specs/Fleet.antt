@@ -59,10 +59,10 @@ pub record HoursFit (hours : List (List ℕ)) : Type 0 where
   pub p2 : ℕ
   pub q2 : ℕ
   pub pairs : hours ≡ hours_from p1 q1 p2 q2
-  pub p1-16 : p1 < 65536
-  pub q1-16 : q1 < 65536
-  pub p2-16 : p2 < 65536
-  pub q2-16 : q2 < 65536
+  pub p1_16 : p1 < 65536
+  pub q1_16 : q1 < 65536
+  pub p2_16 : p2 < 65536
+  pub q2_16 : q2 < 65536
 
 pub record Fits (R : ℕ) (hours : List (List ℕ)) (rows : List Row) : Type 0 where
   pub ticks_16 : R < 65536

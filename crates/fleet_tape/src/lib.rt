@@ -33,7 +33,7 @@ pub enum Scanned {
     Broken,
 }
 
-// Makes a report. Its field of arrays is written here and read in `hours_in`, and nowhere else: these two are proved by a walk of their code.
+// Makes a report.
 fn report_of(refusal: Refusal, kind: Kind, ticks: u16, hours: [[u16; 2]; 2], rows: usize) -> Report
     ensures { result ≡ record { refusal = refusal; kind = kind; ticks = ticks; hours = hours; rows = rows } }
 {

@@ -1,5 +1,5 @@
 -- Inner: The working space of the line program: 65 by 65 cells of a byte, and after them, for each row, the first row that can still matter when its turn comes.
-use Rattle.std.specs.Prelude.{List, [], ◌∷◌, ℕ, ◌+◌, ◌*◌, ◌≤◌, ◌<◌, length, get_or}
+use Rattle.std.specs.Prelude.{List, ◌∷◌, ℕ, ◌+◌, ◌*◌, ◌≤◌, ◌<◌, length, get_or}
 use Rattle.basics.specs.Lists.{at}
 
 -- the cells stand in rows of 65, one for "none" and one for each row

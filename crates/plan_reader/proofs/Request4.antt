@@ -28,7 +28,7 @@ module _ (t : Table) (valid : Valid t) where
         few = valid.few;
         each_end = valid.each_end;
         each_mark = valid.each_mark;
-        setting = record { ticks_least = valid.setting.ticks_least; ticks_most = valid.setting.ticks_most; gap-most = omega arith };
+        setting = record { ticks_least = valid.setting.ticks_least; ticks_most = valid.setting.ticks_most; gap_most = omega arith };
         row = λ i h. let v = valid.row i h in record { window = v.window; mark = v.mark };
       }
 

@@ -89,7 +89,7 @@ module _ (s : Stated) where
           few = omega (arith, each_start);
           each_end = tabled_length (λ i. end_at (place s i)) max_rows ∙ sym each_start;
           each_mark = tabled_length (λ i. 0) max_rows ∙ sym each_start;
-          setting = record { ticks_least = J.ticks_least; ticks_most = J.ticks_most; gap-most = omega arith };
+          setting = record { ticks_least = J.ticks_least; ticks_most = J.ticks_most; gap_most = omega arith };
           row = λ i h.
               let l : i < max_rows = omega (arith, each_start) in
               record {

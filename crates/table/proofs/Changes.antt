@@ -11,7 +11,7 @@ use borrow.Author.Tests.{eq-eqb, eqb-true}
 use lib.ListN.{length, length-append, get_or-append}
 use lib.Seq.{get_or_at}
 use Rattle.basics.specs.Limits.{max_rows}
-use Rattle.basics.specs.Lists.{at, without}
+use Rattle.basics.specs.Lists.{without}
 use Rattle.basics.proofs.Lists.{length_without, past, at_without, past_earlier, past_later, past_most, past_apart}
 use Rattle.window.specs.declared.Row.{Row}
 use Rattle.window.specs.Rows.{row}

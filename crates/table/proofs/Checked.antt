@@ -81,7 +81,7 @@ module _ (S : Setting) where
       let f = then_passed (asked ticks Ticks) (hours then asked gap Gap) p in
       let h = (and_iff (leb_iff 2 S.ticks) (leb_iff S.ticks 43200)).0 (asked_passed ticks Ticks (omega arith) f.0) in
       let g = asked_passed gap Gap (omega arith) (then_passed hours (asked gap Gap) f.1).1 in
-      record { ticks_least = h.0; ticks_most = h.1; gap-most = leb-true S.gap max_gap g }
+      record { ticks_least = h.0; ticks_most = h.1; gap_most = leb-true S.gap max_gap g }
 
   pub row_passed : (row : Row) → Passed (row_refusal S row) → ValidRow S row
   unfolding row_refusal

@@ -40,7 +40,7 @@ module _ (S : Setting) where
       let gap = leb S.gap max_gap in
       then_passes (asked ticks Ticks) (hours then asked gap Gap)
       (asked_passes ticks Ticks ((and_iff (leb_iff 2 S.ticks) (leb_iff S.ticks 43200)).1 (v.ticks_least, v.ticks_most)))
-      (then_passes hours (asked gap Gap) p (asked_passes gap Gap ((leb_iff S.gap max_gap).1 v.gap-most)))
+      (then_passes hours (asked gap Gap) p (asked_passes gap Gap ((leb_iff S.gap max_gap).1 v.gap_most)))
 
   row_passes : (row : Row) → ValidRow S row → Passed (row_refusal S row)
   unfolding row_refusal

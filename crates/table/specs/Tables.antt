@@ -75,7 +75,7 @@ Plan t = Assignment (rows t) (λ i. Allowed t.setting (row_at t i)) (λ i j. Cla
 pub record ValidSetting (S : Setting) : Type 0 where
   pub ticks_least : 2 ≤ S.ticks
   pub ticks_most : S.ticks ≤ 43200
-  pub gap-most : S.gap ≤ max_gap
+  pub gap_most : S.gap ≤ max_gap
 
 pub record ValidRow (S : Setting) (row : Row) : Type 0 where
   pub window : Window S.kind S.ticks row.start row.end

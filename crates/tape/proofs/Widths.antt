@@ -1,31 +1,20 @@
--- The widths of the operands, as a table by command byte: its rule is proved once, by one computed test.
+-- The rule of the table of operand widths, proved once, by one computed test.
 use Prim.Native.Nat.{ℕ, ◌≤◌, ◌<◌}
 use mathlib.Core.Path.{◌≡◌, refl, ap}
 use mathlib.Core.Bool.{true, false, not, Bool, ◌||◌}
-use mathlib.Core.List.{List, ◌∷◌, ◌++◌}
 use native.Mathlib.Omega.{arith}
 use native.Mathlib.Decide.{dec_lt}
 use borrow.Author.Tests.{ne_eqb}
-use lib.ListN.{get_or, replicate}
+use lib.ListN.{get_or}
 use lib.Dec.{eqb}
 use Rattle.basics.specs.Tests.{every}
 use Rattle.basics.proofs.Tests.{every_iff, imp_iff, eqb_iff, leb_iff}
+use Rattle.tape.proofs.WidthTable.{widths}
 use Rattle.tape.specs.Commands.{operand_bytes, ROUND, RUN, RECEIVER, LISTEN, WINDOW, MUST, WINDOW1, MUST1, WINDOW2, MUST2, HOURS, STOP}
 
 unfoldable pub is_command : ℕ → Bool
 is_command b =
     eqb b ROUND || eqb b RUN || eqb b RECEIVER || eqb b LISTEN || eqb b WINDOW || eqb b MUST || eqb b WINDOW1 || eqb b MUST1 || eqb b WINDOW2 || eqb b MUST2 || eqb b HOURS || eqb b STOP
-
--- sixteen places a line, from command 00
-abbrev widths : List ℕ
-widths =
-    replicate 16 0
-    ++ (2 ∷ 2 ∷ replicate 14 0)
-    ++ (1 ∷ replicate 15 0)
-    ++ (5 ∷ replicate 15 0)
-    ++ (replicate 6 4 ++ replicate 10 0)
-    ++ (8 ∷ replicate 15 0)
-    ++ replicate 32 0
 
 pub widths_right : (b : ℕ) → b < 128 → get_or widths b 0 ≡ operand_bytes b
 unfolding operand_bytes every

@@ -255,10 +255,10 @@ module _ {A B : List ℕ → List ℕ → Type 0} {n : ℕ} (alike : (perms : Li
       tried : (y : ℕ) → Alike (A (set perms i (only y))) (B (set perms i (only y)))
       tried y = alike (set perms i (only y)) (length-set perms i (only y) ∙ long)
 
-  narrowed_length : {cap i : ℕ} {perms perms' : List ℕ} → length perms ≡ n → Narrowed A cap perms i perms' → length perms' ≡ n
+  narrowed_length : {cap : ℕ} {perms : List ℕ} {i : ℕ} {perms' : List ℕ} → length perms ≡ n → Narrowed A cap perms i perms' → length perms' ≡ n
   narrowed_length e none = e
   narrowed_length e (more {i} {perms'} {x} N h K) = length-set perms' i (only x) ∙ narrowed_length e N
 
-  pub narrowed_alike : {cap i : ℕ} {perms perms' : List ℕ} → length perms ≡ n → Narrowed A cap perms i perms' → Narrowed B cap perms i perms'
+  pub narrowed_alike : {cap : ℕ} {perms : List ℕ} {i : ℕ} {perms' : List ℕ} → length perms ≡ n → Narrowed A cap perms i perms' → Narrowed B cap perms i perms'
   narrowed_alike e none = none
   narrowed_alike e (more N h K) = more (narrowed_alike e N) h (chosen_alike (narrowed_length e N) K)

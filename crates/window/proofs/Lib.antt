@@ -1,5 +1,6 @@
 -- Laws of ticks and windows.
 pub mod Circle
+pub mod Windows
 pub mod Meaning
 pub mod AllDay
 pub mod Gaps

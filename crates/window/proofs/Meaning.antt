@@ -8,26 +8,13 @@ use native.Mathlib.Decide.{ℕ_discrete}
 use native.Mathlib.Nat.{le_of_lt}
 use lib.Dec.{leb, ltb}
 use borrow.Author.Tests.{ltb-true, lt-ltb, le-ltb, le-leb, eq-eqb, ne_eqb}
-use Rattle.basics.proofs.Tests.{Test, pass, fail, test, bool_ext, leb_iff, ltb_iff, and_iff}
+use Rattle.basics.proofs.Tests.{Test, pass, fail, test, bool_ext, ltb_iff, and_iff}
 use Rattle.window.specs.declared.Kind.{Kind}
 use Rattle.window.specs.declared.Kind.TheVariants.{Round, Run}
 use Rattle.window.specs.Ticks.{Ticks, distance}
-use Rattle.window.specs.Windows.{next, walk, Covers, Overlap, Window, is_window, covers, ticks_in, lies_in, overlaps}
+use Rattle.window.specs.Windows.{next, walk, Covers, Overlap, Window, covers, ticks_in, lies_in, overlaps}
 use Rattle.window.proofs.Circle.{distance_after, distance_before}
-
--- ---- check 6
-
-pub window_iff : (kind : Kind) (R s e : ℕ) → (is_window kind R s e ≡ true) ↔ Window kind R s e
-window_iff Round R s e = and_iff (ltb_iff s R) (ltb_iff e R)
-window_iff Run R s e = and_iff (ltb_iff s e) (leb_iff e R)
-
-pub window_end : (kind : Kind) (R s e : ℕ) → Window kind R s e → e ≤ R
-window_end Round R s e w = le_of_lt w.1
-window_end Run R s e w = w.1
-
-pub window_start : (kind : Kind) (R s e : ℕ) → Window kind R s e → s < R
-window_start Round R s e w = w.0
-window_start Run R s e w = omega arith
+pub use Rattle.window.proofs.Windows.{window_iff, window_end, window_start}
 
 -- ---- the test `covers`, by cases
 

@@ -2,7 +2,6 @@
 use Prim.Native.Nat.{ℕ, ◌+◌}
 use mathlib.Core.Path.{ap, ap₂, ◌∙◌}
 use native.Mathlib.Omega.{arith}
-use borrow.Author.Rules.{rules}
 use Rattle.window.proofs.Meaning.{ticks_most}
 use Rattle.best_plan.specs.declared.Arc.{Arc}
 use Rattle.best_plan.specs.Rows.{cut_off, arc_of}
@@ -18,7 +17,7 @@ pub overflow_add-ticks : goal.overflow_add-ticks
 overflow_add-ticks c =
     let setting = c.args.setting in
     let row = c.args.row in
-    omega (arith, c.ticks_in-ticks.ensures, ticks_most setting.kind setting.ticks row.start row.end c.requires.valid.window, c.requires.setting.ticks_most, c.requires.setting.gap-most)
+    omega (arith, c.ticks_in-ticks.ensures, ticks_most setting.kind setting.ticks row.start row.end c.requires.valid.window, c.requires.setting.ticks_most, c.requires.setting.gap_most)
 
 pub returns : goal.returns
 unfolding arc_of arc

@@ -1,5 +1,4 @@
 -- `best_plan::circle_of` meets its contract: the kind tells whether the longest gap is added.
-use borrow.Author.Rules.{rules}
 use Rattle.best_plan.specs.Rows.{circle_ticks}
 use Rattle.best_plan.proofs.circle_of.Goals as goal
 

@@ -2,11 +2,10 @@
 use Rattle.table.specs.Planned.{space_bytes}
 use borrow.Author.Fill.{fill_more}
 use lib.ListN.{length, replicate, drop, length-set}
-use borrow.Author.Rules.{rules}
 use native.Mathlib.Omega.{arith}
 use mathlib.Core.List.{◌++◌}
 use mathlib.Core.Path.{◌≡◌, subst}
-use Prim.Native.Nat.{ℕ, ◌≤◌, ◌<◌, ◌-◌}
+use Prim.Native.Nat.{ℕ, ◌<◌}
 use Rattle.best_plan.proofs.clear_space.Goals as goal
 
 pub loop-i-preserved : goal.loop-i-preserved

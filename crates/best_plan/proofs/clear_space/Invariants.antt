@@ -1,12 +1,9 @@
 -- `best_plan::clear_space` meets its contract: the bytes passed are 0.
 use Rattle.table.specs.Planned.{space_bytes}
-use borrow.Author.Fill.{fill_more}
-use lib.ListN.{length, replicate, drop, length-set}
-use borrow.Author.Rules.{rules}
-use native.Mathlib.Omega.{arith}
+use lib.ListN.{length, replicate, drop}
 use mathlib.Core.List.{◌++◌}
-use mathlib.Core.Path.{◌≡◌, subst}
-use Prim.Native.Nat.{ℕ, ◌≤◌, ◌<◌, ◌-◌}
+use mathlib.Core.Path.{◌≡◌}
+use Prim.Native.Nat.{◌≤◌, ◌-◌}
 use Rattle.best_plan.proofs.clear_space.Given as goal
 
 abbrev pub invariant-loop-i : goal.invariant-loop-i

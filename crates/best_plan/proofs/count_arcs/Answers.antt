@@ -6,7 +6,6 @@ use Rattle.arcs.specs.Arcs.{Assigned}
 use Rattle.table.specs.Tables.{ValidSetting}
 use Rattle.tracks.specs.Tracks.{Most}
 use mathlib.Core.Path.{◌∙◌, sym, ap, subst}
-use borrow.Author.Rules.{rules}
 use Rattle.best_plan.proofs.count_arcs.Goals as goal
 
 pub circle_of-circle-requires : goal.circle_of-circle-requires
@@ -25,7 +24,7 @@ pub returns : goal.returns
 returns c =
     let g = c.args in
     let core = c.best_count in
-     record {
-      count_of_arcs = λ t e v a. count_given t v a (subst (λ x. Most (Assigned x g.arc-starts.now g.arc-lengths.now g.perms.now) core.result) (c.circle_of-circle.ensures ∙ ap circle_of (sym e)) core.ensures.most.0);
+    record {
+      count_of_arcs = λ t e v a. count_given t v a (subst (λ x. Most (Assigned x g.arc_starts.now g.arc_lengths.now g.perms.now) core.result) (c.circle_of-circle.ensures ∙ ap circle_of (sym e)) core.ensures.most.0);
       space_unchanged = core.ensures.most.1;
     }

@@ -4,7 +4,6 @@ use mathlib.Core.Path.{sym, ◌∙◌}
 use Rattle.table.specs.Tables.{table}
 use Rattle.table.proofs.Changes.{rows_with_row}
 use native.Mathlib.Omega.{arith}
-use borrow.Author.Rules.{rules}
 use Rattle.best_plan.proofs.count_with.Goals as goal
 
 pub slice_bounds-count_with_lent-end : goal.slice_bounds-count_with_lent-end
@@ -20,7 +19,7 @@ pub count_with_lent-requires : goal.count_with_lent-requires
 count_with_lent-requires c =
     let p = c.requires in
     let fits = rows_with_row (table c.args.setting c.args.starts.now c.args.ends.now c.args.marks.now) c.args.row in
-     record {
+    record {
       countable_with = p;
-      arc_lists = record { each_start = length-take-le _ _ (omega (arith, p.longer.few)) ∙ sym fits; each-length = length-take-le _ _ (omega (arith, p.longer.few)) ∙ sym fits; each_perm = length-take-le _ _ (omega (arith, p.longer.few)) ∙ sym fits };
+      arc_lists = record { each_start = length-take-le _ _ (omega (arith, p.longer.few)) ∙ sym fits; each_length = length-take-le _ _ (omega (arith, p.longer.few)) ∙ sym fits; each_perm = length-take-le _ _ (omega (arith, p.longer.few)) ∙ sym fits };
     }

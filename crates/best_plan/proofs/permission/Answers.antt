@@ -1,6 +1,5 @@
 -- `best_plan::permission` meets its contract.
 use Rattle.best_plan.specs.Rows.{permission_of}
-use borrow.Author.Rules.{rules}
 use Rattle.best_plan.proofs.permission.Goals as goal
 
 pub returns : goal.returns

@@ -1,12 +1,9 @@
 -- `best_plan::set_arcs` meets its contract: the arcs and permissions of the rows passed are written.
 use Rattle.best_plan.proofs.Rows.{arcs_set}
-use Rattle.basics.proofs.Filling.{Filled, filled_none, filled_more}
+use Rattle.basics.proofs.Filling.{filled_none, filled_more}
 use Rattle.window.specs.declared.Row.{Row}
 use Rattle.best_plan.specs.Rows.{arc_of, permission_of}
-use Rattle.table.specs.Tables.{table, row_at}
-use lib.ListN.{length}
 use mathlib.Core.Path.{ap}
-use Prim.Native.Nat.{◌≤◌, ◌-◌}
 use native.Mathlib.Omega.{arith}
 use Rattle.best_plan.proofs.set_arcs.Goals as goal
 
@@ -22,9 +19,9 @@ pub set_arc-requires : goal.set_arc-requires
 set_arc-requires c =
     let p = c.requires in
     let l = c.loop-i.invariant in
-    let h = c.loop-i-test.true in  record {
+    let h = c.loop-i-test.true in record {
       has_arc = rw c.row_at-row.ensures (record { setting = p.valid.setting; valid = p.valid.row c.loop-i.i h });
-      arc_place = record { start = omega (arith, p.arc_lists.each_start, l.1.each); ticks = omega (arith, p.arc_lists.each-length, l.2.each); perm = omega (arith, p.arc_lists.each_perm, l.3.each) };
+      arc_place = record { start = omega (arith, p.arc_lists.each_start, l.1.each); ticks = omega (arith, p.arc_lists.each_length, l.2.each); perm = omega (arith, p.arc_lists.each_perm, l.3.each) };
     }
 
 pub loop-i-preserved : goal.loop-i-preserved
@@ -37,7 +34,7 @@ loop-i-preserved c =
     rw (stored.arc_starts_after, stored.arc_lengths_after, stored.perms_after) (
       omega arith,
       filled_more l.invariant.1 (omega (arith, lists.each_start)) (ap (λ (r : Row). (arc_of S r).start) row),
-      filled_more l.invariant.2 (omega (arith, lists.each-length)) (ap (λ (r : Row). (arc_of S r).length) row),
+      filled_more l.invariant.2 (omega (arith, lists.each_length)) (ap (λ (r : Row). (arc_of S r).length) row),
       filled_more l.invariant.3 (omega (arith, lists.each_perm)) (ap (permission_of S) row),
     )
 

@@ -1,11 +1,7 @@
 -- `best_plan::set_labels` meets its contract: the labels passed are those of the permissions.
-use Rattle.basics.proofs.Filling.{Filled, filled_none, filled_more, filled_map}
+use Rattle.basics.proofs.Filling.{filled_none, filled_more, filled_map}
 use Rattle.labels.specs.Permission.{label_of}
-use Rattle.basics.specs.Lists.{at}
-use lib.ListN.{length}
-use borrow.Author.Rules.{rules}
 use native.Mathlib.Omega.{arith}
-use Prim.Native.Nat.{◌≤◌, ◌-◌}
 use Rattle.best_plan.proofs.set_labels.Goals as goal
 
 pub loop-i-init : goal.loop-i-init

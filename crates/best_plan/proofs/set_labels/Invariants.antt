@@ -1,10 +1,8 @@
 -- `best_plan::set_labels` meets its contract: the labels passed are those of the permissions.
-use Rattle.basics.proofs.Filling.{Filled, filled_none, filled_more, filled_map}
+use Rattle.basics.proofs.Filling.{Filled}
 use Rattle.labels.specs.Permission.{label_of}
 use Rattle.basics.specs.Lists.{at}
 use lib.ListN.{length}
-use borrow.Author.Rules.{rules}
-use native.Mathlib.Omega.{arith}
 use Prim.Native.Nat.{◌≤◌, ◌-◌}
 use Rattle.best_plan.proofs.set_labels.Given as goal
 

@@ -1,11 +1,7 @@
 -- `bit_words::are_labels` meets its contract: the labels passed are labels.
-use Prim.Native.Nat.{◌≤◌, ◌-◌}
 use mathlib.Core.Path.{◌≡◌, refl, sym}
-use mathlib.Core.Bool.{true}
-use lib.Dec.{leb}
 use lib.ListN.{length}
 use borrow.Author.Tests.{le-leb, lt-leb}
-use Rattle.basics.specs.Lists.{at}
 use Rattle.basics.specs.Tests.{every}
 use Rattle.basics.proofs.Tests.{every_more, every_fails}
 use native.Mathlib.Omega.{arith}

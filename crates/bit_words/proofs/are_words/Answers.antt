@@ -1,7 +1,6 @@
 -- `bit_words::are_words` meets its contract: its two tests say what `are_words` says of each bit.
 use mathlib.Core.Path.{◌∙◌}
 use Rattle.bit_words.proofs.Carrying.{not_within, within}
-use borrow.Author.Rules.{rules}
 use Rattle.bit_words.proofs.are_words.Goals as goal
 
 pub returns-then-heard-receiver : goal.returns-then-heard-receiver

@@ -8,7 +8,6 @@ use Rattle.refusals.specs.declared.Refusal.TheVariants.{Accepted}
 use Rattle.refusals.specs.Refusals.{answered}
 use Rattle.bit_words.specs.Words.{labels_given}
 use Rattle.bit_words.proofs.Answering.{labels_2, labels_9, labels_made}
-use borrow.Author.Rules.{rules}
 use Rattle.bit_words.proofs.labels_of.Goals as goal
 
 pub returns-then-labels-gt-MAX_ROWS : goal.returns-then-labels-gt-MAX_ROWS

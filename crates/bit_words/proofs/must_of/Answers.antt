@@ -3,7 +3,6 @@ use mathlib.Core.Path.{ap, ◌∙◌}
 use Rattle.refusals.specs.declared.Refusal.TheVariants.{Accepted}
 use Rattle.bit_words.specs.Words.{must_word}
 use Rattle.bit_words.proofs.Answering.{must_2, must_made}
-use borrow.Author.Rules.{rules}
 use Rattle.bit_words.proofs.must_of.Goals as goal
 
 pub returns-then-marks-gt-MAX_ROWS : goal.returns-then-marks-gt-MAX_ROWS

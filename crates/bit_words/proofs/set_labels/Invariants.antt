@@ -1,12 +1,9 @@
 -- `bit_words::set_labels` meets its contract: the rows passed have their labels.
 use Prim.Native.Nat.{◌≤◌, ◌-◌}
-use mathlib.Core.Path.{refl, ap₂, ◌∙◌}
 use lib.ListN.{length}
-use Rattle.basics.proofs.Filling.{Filled, filled_none, filled_more, filled_list}
+use Rattle.basics.proofs.Filling.{Filled}
 use Rattle.bit_words.specs.Bits.{is_set}
-use Rattle.bit_words.specs.Words.{label_by, labels_from}
-use borrow.Author.Rules.{rules}
-use native.Mathlib.Omega.{arith}
+use Rattle.bit_words.specs.Words.{label_by}
 use Rattle.bit_words.proofs.set_labels.Given as goal
 
 abbrev pub invariant-loop-i : goal.invariant-loop-i

@@ -1,6 +1,5 @@
 -- `bit_words::tells_of` meets its contract, word for word.
 use mathlib.Core.Path.{refl}
-use borrow.Author.Rules.{rules}
 use Rattle.bit_words.proofs.tells_of.Goals as goal
 
 pub returns-in-Heard : goal.returns-in-Heard

@@ -1,12 +1,11 @@
 -- `bit_words::word_for` meets its contract: the word made so far is that of the rows passed.
-use Prim.Native.Nat.{ℕ, ◌≤◌, ◌-◌}
+use Prim.Native.Nat.{ℕ}
 use mathlib.Core.Path.{◌≡◌, ap, ◌∙◌}
 use lib.ListN.{length}
 use Rattle.basics.specs.Lists.{at}
 use Rattle.bit_words.specs.Bits.{word_of}
 use Rattle.bit_words.specs.Words.{tells}
 use Rattle.bit_words.proofs.BitLaws.{word_none, word_more, word_free}
-use borrow.Author.Rules.{rules}
 use native.Mathlib.Omega.{arith}
 use Rattle.bit_words.proofs.word_for.Goals as goal
 

@@ -5,7 +5,6 @@ use borrow.Author.Tests.{not-true, not-false}
 use Rattle.refusals.specs.declared.Refusal.TheVariants.{Accepted}
 use Rattle.bit_words.specs.Words.{label_words}
 use Rattle.bit_words.proofs.Answering.{words_2, words_9, words_made}
-use borrow.Author.Rules.{rules}
 use Rattle.bit_words.proofs.words_of.Goals as goal
 
 pub returns-then-labels-gt-MAX_ROWS : goal.returns-then-labels-gt-MAX_ROWS

@@ -3,7 +3,6 @@ use mathlib.Core.Path.{◌≡◌, refl}
 use native.Mathlib.Omega.{arith}
 use Prim.Native.Nat.{ℕ, zero, suc, ◌-◌}
 use Rattle.candidates.specs.Lent.{tried_of}
-use borrow.Author.Rules.{rules}
 use Rattle.candidates.proofs.answer_of.Goals as goal
 
 some_left : (n : ℕ) → (n ≡ 0 → ⊥) → record { number = 0; count = n - 1 } ≡ tried_of n

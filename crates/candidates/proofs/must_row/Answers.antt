@@ -1,6 +1,5 @@
 -- `candidates::must_row` meets its contract: the mark alone is raised.
 use mathlib.Core.Path.{refl}
-use borrow.Author.Rules.{rules}
 use Rattle.candidates.proofs.must_row.Goals as goal
 
 pub returns : goal.returns

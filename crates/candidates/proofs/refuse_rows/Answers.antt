@@ -1,11 +1,9 @@
 -- `candidates::refuse_rows` meets its contract: the candidates passed have the answer.
-use Prim.Native.Nat.{◌≤◌, ◌-◌}
 use mathlib.Core.Path.{refl, sym, ◌∙◌}
 use native.Mathlib.Omega.{arith}
 use lib.ListN.{length}
-use borrow.Author.Rules.{rules}
 use Rattle.basics.proofs.Lists.{list_same}
-use Rattle.basics.proofs.Filling.{Filled, filled_none, filled_more, filled_list}
+use Rattle.basics.proofs.Filling.{filled_none, filled_more, filled_list}
 use Rattle.candidates.proofs.refuse_rows.Goals as goal
 
 pub loop-j-init : goal.loop-j-init
@@ -34,7 +32,7 @@ shape_of-counts c = c.loop-j.invariant.2.each
 pub returns : goal.returns
 returns c =
     let l = c.loop-j.invariant in
-    let n = length c.args.numbers.now in  record {
+    let n = length c.args.numbers.now in record {
       numbers_after = filled_list n refl (omega (arith, l.1.each)) l.1 ∙ sym (list_same n _ 2 (λ k. refl));
       counts_after = filled_list n c.requires (omega (arith, l.1.each)) l.2 ∙ sym (list_same n _ 0 (λ k. refl));
     }

@@ -1,11 +1,7 @@
 -- `candidates::refuse_rows` meets its contract: the candidates passed have the answer.
 use Prim.Native.Nat.{◌≤◌, ◌-◌}
-use mathlib.Core.Path.{refl, sym, ◌∙◌}
-use native.Mathlib.Omega.{arith}
 use lib.ListN.{length}
-use borrow.Author.Rules.{rules}
-use Rattle.basics.proofs.Lists.{list_same}
-use Rattle.basics.proofs.Filling.{Filled, filled_none, filled_more, filled_list}
+use Rattle.basics.proofs.Filling.{Filled}
 use Rattle.candidates.proofs.refuse_rows.Given as goal
 
 abbrev pub invariant-loop-j : goal.invariant-loop-j

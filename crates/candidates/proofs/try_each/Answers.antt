@@ -6,14 +6,13 @@ use Rattle.refusals.specs.Refusals.{number_of}
 use Rattle.table.specs.Tables.{table}
 use Rattle.candidates.specs.Tried.{candidates, called}
 use Rattle.candidates.proofs.Answering.{lists_refuse, space_refuses, candidates_checked, lent_refused, lent_passed, table_lent, candidates_lent}
-use borrow.Author.Rules.{rules}
 use Rattle.candidates.proofs.try_each.Goals as goal
 
 pub returns-then-number-ne0 : goal.returns-then-number-ne0
 returns-then-number-ne0 c =
     let g = c.args in
     let t = table g.setting g.starts.now g.ends.now g.marks.now in
-    let l = candidates g.candidate-starts.now g.candidate-ends.now g.candidate-marks.now in
+    let l = candidates g.candidate_starts.now g.candidate_ends.now g.candidate_marks.now in
     let r = c.check_lists-refusal in
     let n : number_of r.result ≡ 0 → ⊥ = λ z. c.if-number-ne0.true (c.number.ensures ∙ z) in
     ap (λ x. called x g.numbers.now g.counts.now g.space.now) c.looked_at.ensures
@@ -23,7 +22,7 @@ pub returns-then-space-lt-SPACE_BYTES : goal.returns-then-space-lt-SPACE_BYTES
 returns-then-space-lt-SPACE_BYTES c =
     let g = c.args in
     let t = table g.setting g.starts.now g.ends.now g.marks.now in
-    let l = candidates g.candidate-starts.now g.candidate-ends.now g.candidate-marks.now in
+    let l = candidates g.candidate_starts.now g.candidate_ends.now g.candidate_marks.now in
     let lists = sym (ap number_of c.check_lists-refusal.ensures) ∙ sym c.number.ensures ∙ c.if-number-ne0.false in
     ap (λ x. called x g.numbers.now g.counts.now g.space.now) c.looked_at-then-space-lt-SPACE_BYTES.ensures
     ∙ lent_refused t l g.numbers.now g.counts.now g.space.now Space (space_refuses t l g.numbers.now g.counts.now g.space.now lists (omega (arith, c.if-space-lt-SPACE_BYTES.true))) (λ z. omega arith)
@@ -32,7 +31,7 @@ pub returns-then-number-ne0-2 : goal.returns-then-number-ne0-2
 returns-then-number-ne0-2 c =
     let g = c.args in
     let t = table g.setting g.starts.now g.ends.now g.marks.now in
-    let l = candidates g.candidate-starts.now g.candidate-ends.now g.candidate-marks.now in
+    let l = candidates g.candidate_starts.now g.candidate_ends.now g.candidate_marks.now in
     let lists = sym (ap number_of c.check_lists-refusal.ensures) ∙ sym c.number.ensures ∙ c.if-number-ne0.false in
     let r = c.check_candidates-refusal2 in
     ap (λ x. called x g.numbers.now g.counts.now g.space.now) c.looked_at-then-number-ne0-2.ensures
@@ -42,10 +41,10 @@ pub try_table-requires : goal.try_table-requires
 try_table-requires c =
     let g = c.args in
     let t = table g.setting g.starts.now g.ends.now g.marks.now in
-    let l = candidates g.candidate-starts.now g.candidate-ends.now g.candidate-marks.now in
+    let l = candidates g.candidate_starts.now g.candidate_ends.now g.candidate_marks.now in
     let lists = sym (ap number_of c.check_lists-refusal.ensures) ∙ sym c.number.ensures ∙ c.if-number-ne0.false in
     let answers = sym (ap number_of c.check_candidates-refusal2.ensures) ∙ sym c.number-2.ensures ∙ c.if-number-ne0-2.false in
-     record {
+    record {
       table_lent = table_lent t l g.numbers.now g.counts.now g.space.now lists (omega (arith, c.if-space-lt-SPACE_BYTES.false));
       candidates_lent = candidates_lent t l g.numbers.now g.counts.now g.space.now answers;
     }
@@ -54,7 +53,7 @@ pub returns : goal.returns
 returns c =
     let g = c.args in
     let t = table g.setting g.starts.now g.ends.now g.marks.now in
-    let l = candidates g.candidate-starts.now g.candidate-ends.now g.candidate-marks.now in
+    let l = candidates g.candidate_starts.now g.candidate_ends.now g.candidate_marks.now in
     let lists = sym (ap number_of c.check_lists-refusal.ensures) ∙ sym c.number.ensures ∙ c.if-number-ne0.false in
     let answers = sym (ap number_of c.check_candidates-refusal2.ensures) ∙ sym c.number-2.ensures ∙ c.if-number-ne0-2.false in
     c.try_table.ensures ∙ lent_passed t l g.numbers.now g.counts.now g.space.now (sym (ap number_of (candidates_checked t l g.numbers.now g.counts.now g.space.now lists c.if-space-lt-SPACE_BYTES.false)) ∙ answers)

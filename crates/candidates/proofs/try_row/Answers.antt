@@ -9,13 +9,12 @@ use Rattle.best_plan.specs.Rows.{count_of}
 use Rattle.window.specs.declared.Row.{Row}
 use Rattle.candidates.specs.Lent.{tried_of}
 use Rattle.candidates.proofs.Trying.{tried_refused, tried_counted, addable}
-use borrow.Author.Rules.{rules}
 use Rattle.candidates.proofs.try_row.Goals as goal
 
 pub returns-then-number-ne0 : goal.returns-then-number-ne0
 returns-then-number-ne0 c =
     let e = c.number-number.ensures ∙ ap number_of c.check_row-refusal.ensures in
-     record {
+    record {
       value = rw e (sym (tried_refused (table c.args.setting c.args.starts.now c.args.ends.now c.args.marks.now) c.args.row c.requires.passed.looked c.requires.below (λ z. c.if-number-ne0.true (e ∙ z))));
       space_unchanged = refl;
     }
@@ -29,7 +28,7 @@ pub returns : goal.returns
 returns c =
     let t = table c.args.setting c.args.starts.now c.args.ends.now c.args.marks.now in
     let e = c.number-number.ensures ∙ ap number_of c.check_row-refusal.ensures in
-    let n = c.count_with-best.ensures in  record {
+    let n = c.count_with-best.ensures in record {
       value = c.answer_of.ensures ∙ ap tried_of (n.value ∙ ap (λ (r : Row). count_of (best_plan (with_row t r))) c.must_row-must.ensures)
           ∙ sym (tried_counted t c.args.row c.requires.passed.looked c.requires.below (sym e ∙ c.if-number-ne0.false));
       space_unchanged = n.space_unchanged;

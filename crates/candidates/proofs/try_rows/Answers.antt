@@ -1,13 +1,11 @@
 -- `candidates::try_rows` meets its contract: the candidates passed have their answers.
-use Prim.Native.Nat.{◌≤◌, ◌-◌}
-use mathlib.Core.Path.{◌≡◌, refl, ap, ◌∙◌}
+use mathlib.Core.Path.{refl, ap, ◌∙◌}
 use native.Mathlib.Omega.{arith}
-use lib.ListN.{length, drop}
-use Rattle.basics.proofs.Filling.{Filled, filled_none, filled_more, filled_list}
-use Rattle.line.specs.Cells.{core_bytes}
+use lib.ListN.{length}
+use Rattle.basics.proofs.Filling.{filled_none, filled_more, filled_list}
 use Rattle.table.specs.Tables.{table}
 use Rattle.candidates.specs.declared.Tried.{Tried}
-use Rattle.candidates.specs.Tried.{tried, candidates, size, candidate_at}
+use Rattle.candidates.specs.Tried.{tried}
 use Rattle.candidates.proofs.try_rows.Goals as goal
 
 pub loop-j-init : goal.loop-j-init
@@ -41,7 +39,7 @@ loop-j-preserved c =
       omega arith,
       filled_more l.1 (omega (arith, p.each_number)) (ap (λ (x : Tried). x.number) e),
       filled_more l.2 (omega (arith, p.each_count)) (ap (λ (x : Tried). x.count) e),
-      r.auto.1.1.1.1.1.0 ∙ l.3,
+      r.auto.space ∙ l.3,
       r.ensures.space_unchanged ∙ l.4,
     )
 
@@ -58,8 +56,8 @@ pub returns : goal.returns
 returns c =
     let l = c.loop-j.invariant in
     let p = c.requires.candidates_lent in
-    let n = length c.args.candidate-starts.now in
-     record {
+    let n = length c.args.candidate_starts.now in
+    record {
       value = omega arith;
       numbers_after = filled_list n p.each_number (omega arith) l.1;
       counts_after = filled_list n p.each_count (omega arith) l.2;

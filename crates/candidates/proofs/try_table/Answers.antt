@@ -11,14 +11,13 @@ use Rattle.table.proofs.Checked.{table_8, table_passed, table_looked_rows}
 use Rattle.best_plan.proofs.Clearing.{space_cleared}
 use Rattle.candidates.specs.Tried.{candidates, rows_with, called, answers}
 use Rattle.candidates.proofs.Answering.{checks_passed, table_stops, table_8_reported, table_taken, rows_read, read_most, refused_so, no_plan_so, accepted_so}
-use borrow.Author.Rules.{rules}
 use Rattle.candidates.proofs.try_table.Goals as goal
 
 pub returns-then-number-ne0 : goal.returns-then-number-ne0
 returns-then-number-ne0 c =
     let g = c.args in
     let t = table g.setting g.starts.now g.ends.now g.marks.now in
-    let l = candidates g.candidate-starts.now g.candidate-ends.now g.candidate-marks.now in
+    let l = candidates g.candidate_starts.now g.candidate_ends.now g.candidate_marks.now in
     let e = c.check_table-looked.ensures in
     let n : number_of (table_looked t).refusal ≡ 0 → ⊥ = λ z. c.if-number-ne0.true (c.number.ensures ∙ ap (λ (x : Looked). number_of x.refusal) e ∙ z) in
     ap (λ x. called x g.numbers.now g.counts.now g.space.now) e
@@ -30,7 +29,7 @@ count_checked-table_best-requires c =
     let g = c.args in
     let p = c.requires.table_lent in
     let t = table g.setting g.starts.now g.ends.now g.marks.now in
-    let l = candidates g.candidate-starts.now g.candidate-ends.now g.candidate-marks.now in
+    let l = candidates g.candidate_starts.now g.candidate_ends.now g.candidate_marks.now in
     let passed = checks_passed t l c.check_table-looked.ensures c.number.ensures c.if-number-ne0.false in
     record { valid = table_passed t passed p.few; room = omega (arith, p.room) }
 
@@ -38,7 +37,7 @@ pub returns-then-table_best-eq0 : goal.returns-then-table_best-eq0
 returns-then-table_best-eq0 c =
     let g = c.args in
     let t = table g.setting g.starts.now g.ends.now g.marks.now in
-    let l = candidates g.candidate-starts.now g.candidate-ends.now g.candidate-marks.now in
+    let l = candidates g.candidate_starts.now g.candidate_ends.now g.candidate_marks.now in
     let e = c.check_table-looked.ensures in
     let passed = checks_passed t l e c.number.ensures c.if-number-ne0.false in
     let all = ap (λ (x : Looked). x.rows) e ∙ table_looked_rows t passed in
@@ -52,25 +51,25 @@ pub answer_rows-read-requires : goal.answer_rows-read-requires
 answer_rows-read-requires c =
     let g = c.args in
     let p = c.requires in
-    let q = p.0 in
+    let q = p.table_lent in
     let t = table g.setting g.starts.now g.ends.now g.marks.now in
-    let l = candidates g.candidate-starts.now g.candidate-ends.now g.candidate-marks.now in
+    let l = candidates g.candidate_starts.now g.candidate_ends.now g.candidate_marks.now in
     let passed = checks_passed t l c.check_table-looked.ensures c.number.ensures c.if-number-ne0.false in
-     record {
-      table_passed = record { lent = record { few = q.few; each_end = q.each_end; each_mark = q.each_mark; room = omega (arith, q.room, c.count_checked-table_best.auto.1.1.1.1.0) }; looked = passed };
+    record {
+      table_passed = record { lent = record { few = q.few; each_end = q.each_end; each_mark = q.each_mark; room = omega (arith, q.room, c.count_checked-table_best.auto.space) }; looked = passed };
       candidates_lent = p.candidates_lent;
     }
 
 pub clear_space-requires-2 : goal.clear_space-requires-2
 clear_space-requires-2 c =
-    omega (arith, c.requires.table_lent.room, c.count_checked-table_best.auto.1.1.1.1.0, c.answer_rows-read.auto.1.1.1.1.1.1.1.1.1.0)
+    omega (arith, c.requires.table_lent.room, c.count_checked-table_best.auto.space, c.answer_rows-read.auto.space)
 
 pub overflow_add-rows : goal.overflow_add-rows
 overflow_add-rows c =
     let g = c.args in
     let p = c.requires in
     let t = table g.setting g.starts.now g.ends.now g.marks.now in
-    let l = candidates g.candidate-starts.now g.candidate-ends.now g.candidate-marks.now in
+    let l = candidates g.candidate_starts.now g.candidate_ends.now g.candidate_marks.now in
     let e = c.check_table-looked.ensures in
     let passed = checks_passed t l e c.number.ensures c.if-number-ne0.false in
     omega (arith, p.table_lent.few, p.candidates_lent.few, ap (λ (x : Looked). x.rows) e, table_looked_rows t passed, c.answer_rows-read.ensures.value, read_most t l)
@@ -79,7 +78,7 @@ pub returns : goal.returns
 returns c =
     let g = c.args in
     let t = table g.setting g.starts.now g.ends.now g.marks.now in
-    let l = candidates g.candidate-starts.now g.candidate-ends.now g.candidate-marks.now in
+    let l = candidates g.candidate_starts.now g.candidate_ends.now g.candidate_marks.now in
     let e = c.check_table-looked.ensures in
     let passed = checks_passed t l e c.number.ensures c.if-number-ne0.false in
     let all = ap (λ (x : Looked). x.rows) e ∙ table_looked_rows t passed in

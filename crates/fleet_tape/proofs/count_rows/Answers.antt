@@ -1,12 +1,8 @@
 -- `fleet_tape::count_rows` meets its contract. The loop's invariant: the rows counted and those from the place on are all rows.
 -- The measure is what is left of the tape.
-use Prim.Native.Nat.{◌-◌, ◌≤◌}
-use mathlib.Core.Path.{◌≡◌, sym, ◌∙◌}
+use mathlib.Core.Path.{sym, ◌∙◌}
 use native.Mathlib.Omega.{arith}
-use lib.ListN.{length, drop}
-use Rattle.fleet_tape.specs.Form.{rows_in}
-use Rattle.fleet_tape.specs.Scan.{counted}
-use Rattle.fleet_tape.proofs.Rows.{more, row_at_of, count_none, count_more, count_stop, count_broken}
+use Rattle.fleet_tape.proofs.Rows.{row_at_of, count_none, count_more, count_stop, count_broken}
 use borrow.Author.Rules.{rules}
 use Rattle.fleet_tape.proofs.count_rows.Goals as goal
 

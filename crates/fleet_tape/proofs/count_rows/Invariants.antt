@@ -1,12 +1,10 @@
 -- `fleet_tape::count_rows` meets its contract. The loop's invariant: the rows counted and those from the place on are all rows.
 use Prim.Native.Nat.{◌-◌, ◌≤◌}
-use mathlib.Core.Path.{◌≡◌, sym, ◌∙◌}
-use native.Mathlib.Omega.{arith}
+use mathlib.Core.Path.{◌≡◌}
 use lib.ListN.{length, drop}
 use Rattle.fleet_tape.specs.Form.{rows_in}
 use Rattle.fleet_tape.specs.Scan.{counted}
-use Rattle.fleet_tape.proofs.Rows.{more, row_at_of, count_none, count_more, count_stop, count_broken}
-use borrow.Author.Rules.{rules}
+use Rattle.fleet_tape.proofs.Rows.{more}
 use Rattle.fleet_tape.proofs.count_rows.Given as goal
 
 abbrev pub invariant-loop-at : goal.invariant-loop-at

@@ -1,16 +1,13 @@
 -- `fleet_tape::fill_rows` meets its contract. The loop's invariant: what the rows from the place on would still write gives the lists that all rows give.
 -- The measure is how many rows are left.
-use Prim.Native.Nat.{ℕ, ◌+◌, ◌-◌, ◌≤◌, ◌<◌}
+use Prim.Native.Nat.{ℕ, ◌+◌, ◌-◌, ◌<◌}
 use mathlib.Core.Path.{◌≡◌, refl, sym, ap, ◌∙◌}
 use mathlib.Core.List.{List}
 use native.Mathlib.Omega.{arith}
 use lib.ListN.{drop, length-set}
-use lib.Seq.{sets}
-use Rattle.basics.specs.Limits.{Places}
 use Rattle.fleet_tape.specs.declared.Scanned.TheVariants.{Count}
-use Rattle.window.specs.Rows.{starts_of, ends_of, marks_of}
 use Rattle.fleet_tape.specs.Form.{rows_in}
-use Rattle.fleet_tape.specs.Scan.{counted, listed}
+use Rattle.fleet_tape.specs.Scan.{counted}
 use Rattle.fleet_tape.proofs.Rows.{Next, next_row, fill_more, fill_done, fill_all}
 use borrow.Author.Rules.{rules}
 use Rattle.fleet_tape.proofs.fill_rows.Goals as goal
@@ -71,12 +68,12 @@ mark_of-requires c =
     let n = next a.tape.now a.rows l.at l.row l.invariant.2 c.loop-row-test.true in
     n.row.command
 
-pub overflow_add-at : goal.overflow_add-at
-overflow_add-at c =
+pub overflow_add-at-in-loop-row-2 : goal.overflow_add-at-in-loop-row-2
+overflow_add-at-in-loop-row-2 c =
     let l = c.loop-row in
     let a = c.args in
     let n = next a.tape.now a.rows l.at l.row l.invariant.2 c.loop-row-test.true in
-    omega (arith, c.operand-bytes.ensures, n.row.width)
+    omega (arith, c.operand_bytes.ensures, n.row.width)
 
 pub overflow_add-at-in-loop-row-3 : goal.overflow_add-at-in-loop-row-3
 overflow_add-at-in-loop-row-3 c =
@@ -104,7 +101,7 @@ returns c =
     let l = c.loop-row in
     let o = rows_in (drop l.at c.args.tape.now) in
     let e : counted o ≡ Count 0 = l.invariant.2 ∙ ap Count (omega arith) in
-    let all = rows_in (drop c.args.from c.args.tape.now) in  record {
+    let all = rows_in (drop c.args.from c.args.tape.now) in record {
       starts_after = sym (l.invariant.3 ∙ fill_done (λ row. row.start) o l.starts l.row e) ∙ fill_all (λ row. row.start) all c.args.rows c.args.starts.now c.requires.form (omega (arith, c.requires));
       ends_after = sym (l.invariant.4 ∙ fill_done (λ row. row.end) o l.ends l.row e) ∙ fill_all (λ row. row.end) all c.args.rows c.args.ends.now c.requires.form (omega (arith, c.requires));
       marks_after = sym (l.invariant.5 ∙ fill_done (λ row. row.mark) o l.marks l.row e) ∙ fill_all (λ row. row.mark) all c.args.rows c.args.marks.now c.requires.form (omega (arith, c.requires));

@@ -1,17 +1,13 @@
 -- `fleet_tape::fill_rows` meets its contract. The loop's invariant: what the rows from the place on would still write gives the lists that all rows give.
-use Prim.Native.Nat.{ℕ, ◌+◌, ◌-◌, ◌≤◌, ◌<◌}
-use mathlib.Core.Path.{◌≡◌, refl, sym, ap, ◌∙◌}
-use mathlib.Core.List.{List}
-use native.Mathlib.Omega.{arith}
-use lib.ListN.{drop, length-set}
+use Prim.Native.Nat.{◌-◌, ◌≤◌}
+use mathlib.Core.Path.{◌≡◌}
+use lib.ListN.{drop}
 use lib.Seq.{sets}
 use Rattle.basics.specs.Limits.{Places}
 use Rattle.fleet_tape.specs.declared.Scanned.TheVariants.{Count}
 use Rattle.window.specs.Rows.{starts_of, ends_of, marks_of}
 use Rattle.fleet_tape.specs.Form.{rows_in}
 use Rattle.fleet_tape.specs.Scan.{counted, listed}
-use Rattle.fleet_tape.proofs.Rows.{Next, next_row, fill_more, fill_done, fill_all}
-use borrow.Author.Rules.{rules}
 use Rattle.fleet_tape.proofs.fill_rows.Given as goal
 
 abbrev pub invariant-loop-row : goal.invariant-loop-row

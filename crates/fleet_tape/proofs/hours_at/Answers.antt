@@ -1,7 +1,6 @@
 -- `fleet_tape::hours_at` meets its contract: each word is that of the part that starts at the place.
 use mathlib.Core.Path.{◌∙◌}
 use Rattle.tape.proofs.Heads.{word_at_drop}
-use borrow.Author.Rules.{rules}
 use Rattle.fleet_tape.proofs.hours_at.Goals as goal
 
 pub returns : goal.returns

@@ -2,7 +2,6 @@
 use mathlib.Core.Path.{sym, ◌∙◌}
 use mathlib.Core.Bool.{and-false}
 use native.Mathlib.Omega.{arith}
-use borrow.Author.Rules.{rules}
 use lib.ListN.{get_or, drop}
 use Rattle.tape.proofs.Heads.{first_at, short_at}
 use Rattle.fleet_tape.proofs.is_row_at.Goals as goal

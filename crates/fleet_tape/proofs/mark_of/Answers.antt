@@ -1,5 +1,4 @@
 -- `fleet_tape::mark_of` meets its contract: a row's command is not below WINDOW.
-use borrow.Author.Rules.{rules}
 use Rattle.fleet_tape.proofs.Marks.{row_iff}
 use Rattle.fleet_tape.proofs.mark_of.Goals as goal
 

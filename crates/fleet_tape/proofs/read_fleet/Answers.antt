@@ -1,6 +1,5 @@
 -- `fleet_tape::read_fleet` meets its contract: demand 2 follows from what it computes.
 use native.Mathlib.Omega.{arith}
-use borrow.Author.Rules.{rules}
 use Rattle.fleet_tape.proofs.Exact.{read_said}
 use Rattle.fleet_tape.proofs.read_fleet.Goals as goal
 

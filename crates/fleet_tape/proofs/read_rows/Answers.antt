@@ -1,12 +1,12 @@
 -- `fleet_tape::read_rows` meets its contract: by what `count_rows` found.
--- In an answer k is the place where the number of rows is known, and a is the arguments.
+-- In an answer a is the arguments.
 use mathlib.Core.Path.{◌≡◌, refl, sym, ◌∙◌}
+use native.Mathlib.Omega.{arith}
 use lib.ListN.{drop}
 use Rattle.fleet_tape.specs.declared.Scanned.TheVariants.{Count, Broken}
 use Rattle.fleet_tape.specs.Form.{rows_in}
 use Rattle.fleet_tape.specs.Scan.{counted}
 use Rattle.fleet_tape.proofs.Judged.{reading_same, read_broken, read_many, read_taken}
-use borrow.Author.Rules.{rules}
 use Rattle.fleet_tape.proofs.read_rows.Goals as goal
 
 pub returns-then-rows-gt-MAX_ROWS : goal.returns-then-rows-gt-MAX_ROWS
@@ -14,7 +14,7 @@ returns-then-rows-gt-MAX_ROWS c =
     let a = c.args in
     let o = rows_in (drop a.from a.tape.now) in
     let e : counted o ≡ Count c.in-Count.rows = sym c.count_rows.ensures ∙ c.in-Count.is in
-    reading_same c.refuse.ensures refl refl refl ∙ sym (read_many a.kind a.ticks a.hours a.starts.now a.ends.now a.marks.now o _ e c.if-rows-gt-MAX_ROWS.true)
+    reading_same c.refuse.ensures refl refl refl ∙ sym (read_many a.kind a.ticks a.hours a.starts.now a.ends.now a.marks.now o _ e (omega arith))
 
 pub fill_rows-requires : goal.fill_rows-requires
 fill_rows-requires c =

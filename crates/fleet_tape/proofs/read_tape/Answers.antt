@@ -1,5 +1,5 @@
 -- `fleet_tape::read_tape` meets its contract: by what the lists and the head of the tape told, and then by `read_rows`.
--- In an answer p, n, r and h are the places after the tests for the lists, ROUND, RUN and HOURS, and a is the arguments.
+-- In an answer a is the arguments.
 use mathlib.Core.Path.{◌≡◌, refl, sym, ◌∙◌}
 use mathlib.Core.Bool.{Bool, true, false, not}
 use native.Mathlib.Omega.{arith}
@@ -7,7 +7,6 @@ use borrow.Author.Tests.{not-true, not-false}
 use Rattle.tape.specs.Commands.{ROUND, RUN, operand_bytes}
 use Rattle.basics.proofs.Places.{places_iff}
 use Rattle.fleet_tape.proofs.Judged.{reading_same, ticks_fit, hours_fit, read_unplaced, read_round, read_neither, read_no_hours, read_run}
-use borrow.Author.Rules.{rules}
 use Rattle.fleet_tape.proofs.read_tape.Goals as goal
 
 -- what a call told, by the branch on its result's opposite

@@ -1,7 +1,6 @@
 -- `carried` by its test.
 use native.Mathlib.Omega.{arith}
 use Rattle.line.proofs.Laws.{carry_over, carry_live}
-use borrow.Author.Rules.{rules}
 use Rattle.line.proofs.carried.Goals as goal
 
 pub returns-then-end-next : goal.returns-then-end-next

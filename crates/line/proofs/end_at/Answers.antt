@@ -1,6 +1,5 @@
 -- `end_at` by its test.
 use Rattle.line.proofs.Laws.{end_at_pos}
-use borrow.Author.Rules.{rules}
 use Rattle.line.proofs.end_at.Goals as goal
 
 pub returns : goal.returns

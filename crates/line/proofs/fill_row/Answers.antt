@@ -1,9 +1,7 @@
 -- `fill_row`: the cells from m on are made.
-use Prim.Native.Nat.{◌+◌, ◌≤◌}
 use mathlib.Core.Path.{◌≡◌, refl}
 use native.Mathlib.Omega.{arith}
-use lib.ListN.{length, length-set}
-use Rattle.line.specs.Stage.{Live, new_cell, RowMade}
+use lib.ListN.{length-set}
 use Rattle.line.proofs.Turns.{live_passed, row_none, row_more, row_one, row_value}
 use Rattle.line.proofs.fill_row.Goals as goal
 

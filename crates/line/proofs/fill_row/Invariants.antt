@@ -1,10 +1,8 @@
 -- `fill_row`: the cells from m on are made.
 use Prim.Native.Nat.{◌+◌, ◌≤◌}
-use mathlib.Core.Path.{◌≡◌, refl}
-use native.Mathlib.Omega.{arith}
-use lib.ListN.{length, length-set}
+use mathlib.Core.Path.{◌≡◌}
+use lib.ListN.{length}
 use Rattle.line.specs.Stage.{Live, new_cell, RowMade}
-use Rattle.line.proofs.Turns.{live_passed, row_none, row_more, row_one, row_value}
 use Rattle.line.proofs.fill_row.Given as goal
 
 abbrev pub invariant-loop-m : goal.invariant-loop-m

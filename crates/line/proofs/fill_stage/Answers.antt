@@ -1,9 +1,7 @@
 -- `fill_stage`: the rows of cells from m on are made.
-use Prim.Native.Nat.{◌+◌, ◌≤◌}
 use mathlib.Core.Path.{◌≡◌, refl}
 use native.Mathlib.Omega.{arith}
-use lib.ListN.{length}
-use Rattle.line.specs.Stage.{Live, new_cell, StageMade}
+use Rattle.line.specs.Stage.{new_cell}
 use Rattle.line.proofs.Turns.{live_passed, stage_none, stage_more, stage_cell, stage_small}
 use Rattle.line.proofs.fill_stage.Goals as goal
 

@@ -1,5 +1,4 @@
 -- `heard_value` by its tests.
-use borrow.Author.Rules.{rules}
 use borrow.Author.Tests.{le-leb, lt-leb}
 use Rattle.line.specs.Line.{gain}
 use Rattle.line.proofs.Laws.{gain_pos}

@@ -1,24 +1,23 @@
 -- `line_best`: the cells that matter hold what is best from row k on.
-use Prim.Native.Nat.{◌-◌, ◌≤◌}
-use mathlib.Core.Path.{◌≡◌, ◌∙◌, refl, sym}
+use Prim.Native.Nat.{◌-◌}
+use mathlib.Core.Path.{◌∙◌, refl, sym}
 use native.Mathlib.Nat.{le_refl}
 use native.Mathlib.Omega.{arith}
-use lib.ListN.{length, drop, length-set, get_or-eq_default}
+use lib.ListN.{length, length-set, get_or-eq_default}
 use lib.Seq.{drop-set-lt}
 use Rattle.line.specs.Cells.{cell_bytes}
-use Rattle.line.proofs.Turns.{start_at, Holds, holds_first, holds_small, holds_step, holds_last, turn}
+use Rattle.line.proofs.Turns.{holds_first, holds_small, holds_step, holds_last, turn}
 use Rattle.basics.proofs.Lists.{get_d_any}
 use Rattle.line.proofs.line_best.Goals as goal
 
 pub loop-k-init : goal.loop-k-init
-loop-k-init c =
-    (
-      omega arith,
-      refl,
-      refl,
-      sym (get_or-eq_default c.args.starts.now 65535 (le_refl (length c.args.starts.now))),
-      holds_first _ _ _ c.requires.line c.args.space.now (omega arith) (λ i. omega (arith, c.shared_slice_known-2-1.given i)),
-    )
+loop-k-init c = (
+  omega arith,
+  refl,
+  refl,
+  sym (get_or-eq_default c.args.starts.now 65535 (le_refl (length c.args.starts.now))),
+  holds_first _ _ _ c.requires.line c.args.space.now (omega arith) (λ i. omega (arith, c.shared_slice_known-2-1.given i)),
+)
 
 pub bounds-space-k : goal.bounds-space-k
 bounds-space-k c = omega (arith, length-set c.args.space.now 0 1)

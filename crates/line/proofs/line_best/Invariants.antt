@@ -1,13 +1,9 @@
 -- `line_best`: the cells that matter hold what is best from row k on.
-use Prim.Native.Nat.{◌-◌, ◌≤◌}
-use mathlib.Core.Path.{◌≡◌, ◌∙◌, refl, sym}
-use native.Mathlib.Nat.{le_refl}
-use native.Mathlib.Omega.{arith}
-use lib.ListN.{length, drop, length-set, get_or-eq_default}
-use lib.Seq.{drop-set-lt}
+use Prim.Native.Nat.{◌≤◌}
+use mathlib.Core.Path.{◌≡◌}
+use lib.ListN.{length, drop}
 use Rattle.line.specs.Cells.{cell_bytes}
-use Rattle.line.proofs.Turns.{start_at, Holds, holds_first, holds_small, holds_step, holds_last, turn}
-use Rattle.basics.proofs.Lists.{get_d_any}
+use Rattle.line.proofs.Turns.{start_at, Holds}
 use Rattle.line.proofs.line_best.Given as goal
 
 abbrev pub invariant-loop-k : goal.invariant-loop-k

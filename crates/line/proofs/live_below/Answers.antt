@@ -1,6 +1,5 @@
 -- `live_below`: the last rows from a + 1 to m are over.
 use native.Mathlib.Omega.{arith}
-use Rattle.line.specs.Stage.{LiveBelow}
 use Rattle.line.proofs.Turns.{live_none, live_less, live_low}
 use Rattle.line.proofs.live_below.Goals as goal
 

@@ -1,7 +1,5 @@
 -- `live_below`: the last rows from a + 1 to m are over.
-use native.Mathlib.Omega.{arith}
 use Rattle.line.specs.Stage.{LiveBelow}
-use Rattle.line.proofs.Turns.{live_none, live_less, live_low}
 use Rattle.line.proofs.live_below.Given as goal
 
 abbrev pub invariant-loop-a : goal.invariant-loop-a

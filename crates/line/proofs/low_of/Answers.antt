@@ -1,9 +1,6 @@
 -- `low_of`: every row passed ends by the tick start.
-use Prim.Native.Nat.{ℕ, ◌-◌, ◌≤◌, ◌<◌}
-use mathlib.Core.Path.{◌≡◌}
 use native.Mathlib.Omega.{arith}
 use borrow.Author.Count.{below_more}
-use Rattle.basics.specs.Lists.{at}
 use Rattle.line.proofs.low_of.Goals as goal
 
 pub returns-then-start-ends : goal.returns-then-start-ends

@@ -1,9 +1,8 @@
 -- `set_lows`: the low rows of the rows before k are written.
-use Prim.Native.Nat.{◌-◌, ◌≤◌}
-use mathlib.Core.Path.{◌≡◌, refl}
+use mathlib.Core.Path.{refl}
 use native.Mathlib.Omega.{arith}
-use lib.ListN.{length, length-set}
-use Rattle.line.proofs.Turns.{LowsMade, lows_none, lows_more, lows_done}
+use lib.ListN.{length-set}
+use Rattle.line.proofs.Turns.{lows_none, lows_more, lows_done}
 use Rattle.line.proofs.set_lows.Goals as goal
 
 pub loop-k-init : goal.loop-k-init

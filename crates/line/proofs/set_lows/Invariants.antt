@@ -1,9 +1,8 @@
 -- `set_lows`: the low rows of the rows before k are written.
 use Prim.Native.Nat.{◌-◌, ◌≤◌}
-use mathlib.Core.Path.{◌≡◌, refl}
-use native.Mathlib.Omega.{arith}
-use lib.ListN.{length, length-set}
-use Rattle.line.proofs.Turns.{LowsMade, lows_none, lows_more, lows_done}
+use mathlib.Core.Path.{◌≡◌}
+use lib.ListN.{length}
+use Rattle.line.proofs.Turns.{LowsMade}
 use Rattle.line.proofs.set_lows.Given as goal
 
 abbrev pub invariant-loop-k : goal.invariant-loop-k

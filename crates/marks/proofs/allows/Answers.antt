@@ -1,7 +1,6 @@
 -- `marks::allows` meets its contract: each arm is what the mark says of one label.
 use mathlib.Core.Path.{◌∙◌, ap}
 use mathlib.Core.Bool.{not}
-use borrow.Author.Rules.{rules}
 use Rattle.marks.proofs.Allowing.{allows_0, allows_1, allows_2, allows_other}
 use Rattle.marks.proofs.allows.Goals as goal
 

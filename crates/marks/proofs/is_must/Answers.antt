@@ -1,5 +1,4 @@
 -- `marks::is_must` meets its contract.
-use borrow.Author.Rules.{rules}
 use borrow.Author.Tests.{eq-eqb, ne_eqb}
 use Rattle.marks.proofs.is_must.Goals as goal
 

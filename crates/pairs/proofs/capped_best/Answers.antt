@@ -1,9 +1,6 @@
 -- `pairs::capped_best` meets its contract: the loop has tried the pairs with their first row from w1 on, and labels leave no meeting arcs on one receiver exactly if some pair fits them.
 use mathlib.Core.Path.{◌∙◌}
-use native.Mathlib.Omega.{arith}
-use borrow.Author.Rules.{rules}
-use Rattle.pairs.specs.Pairs.{gathered, SecondFit}
-use Rattle.pairs.proofs.Trials.{Tried, tried_none, tried_ready, tried_more, tried_reached, tried_all, any_cleared}
+use Rattle.pairs.proofs.Trials.{tried_none, tried_ready, tried_more, tried_reached, tried_all, any_cleared}
 use Rattle.pairs.proofs.capped_best.Goals as goal
 
 pub loop-w1-init : goal.loop-w1-init
@@ -14,12 +11,12 @@ second_best-v-requires c = tried_ready c.loop-w1.invariant c.requires
 
 pub shape_of-left-then-cap-v : goal.shape_of-left-then-cap-v
 shape_of-left-then-cap-v c =
-    c.second_best-v.auto.1.1.1.1.1.1.1.0
+    c.second_best-v.auto.left
     ∙ c.loop-w1.invariant.same_left
 
 pub shape_of-space-then-cap-v : goal.shape_of-space-then-cap-v
 shape_of-space-then-cap-v c =
-    c.second_best-v.auto.1.1.1.1.1.1.1.1.0
+    c.second_best-v.auto.space
     ∙ c.loop-w1.invariant.same_space
 
 pub returns-then-cap-v : goal.returns-then-cap-v
@@ -29,7 +26,7 @@ returns-then-cap-v c =
 
 pub loop-w1-preserved : goal.loop-w1-preserved
 loop-w1-preserved c =
-    tried_more c.loop-w1.invariant c.loop-w1-test.true c.second_best-v.ensures.0 c.second_best-v.auto.1.1.1.1.1.1.1.0 c.second_best-v.auto.1.1.1.1.1.1.1.1.0
+    tried_more c.loop-w1.invariant c.loop-w1-test.true c.second_best-v.ensures.0 c.second_best-v.auto.left c.second_best-v.auto.space
     c.second_best-v.ensures.1 c.larger-best.ensures
 
 pub shape_of-left : goal.shape_of-left

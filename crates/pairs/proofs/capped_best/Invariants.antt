@@ -1,9 +1,6 @@
 -- `pairs::capped_best` meets its contract: the loop has tried the pairs with their first row from w1 on, and labels leave no meeting arcs on one receiver exactly if some pair fits them.
-use mathlib.Core.Path.{◌∙◌}
-use native.Mathlib.Omega.{arith}
-use borrow.Author.Rules.{rules}
 use Rattle.pairs.specs.Pairs.{gathered, SecondFit}
-use Rattle.pairs.proofs.Trials.{Tried, tried_none, tried_ready, tried_more, tried_reached, tried_all, any_cleared}
+use Rattle.pairs.proofs.Trials.{Tried}
 use Rattle.pairs.proofs.capped_best.Given as goal
 
 abbrev pub invariant-loop-w1 : goal.invariant-loop-w1

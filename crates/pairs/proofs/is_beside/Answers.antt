@@ -1,6 +1,5 @@
 -- `pairs::is_beside` meets its contract: each test is one of the definition.
 use Rattle.pairs.proofs.Leaves.{beside_none, beside_early, beside_late}
-use borrow.Author.Rules.{rules}
 use Rattle.pairs.proofs.is_beside.Goals as goal
 
 pub returns-then-m-w : goal.returns-then-m-w

@@ -1,23 +1,12 @@
 -- `pairs::leave` meets its contract: the loop has written what the pair leaves of the permissions that it passed, none of them 0.
-use Prim.Native.Nat.{ℕ, ◌≤◌, ◌-◌}
-use mathlib.Core.Path.{◌≡◌, refl, sym, subst, ◌∙◌}
+use Prim.Native.Nat.{ℕ}
+use mathlib.Core.Path.{refl, sym, subst, ◌∙◌}
 use mathlib.Core.Bool.{false≢true}
 use native.Mathlib.Omega.{arith}
-use borrow.Author.Rules.{rules}
-use lib.ListN.{length, length-set}
-use Rattle.basics.specs.Lists.{at}
-use Rattle.pairs.specs.Pairs.{gathered, left_of, LeftAll}
+use lib.ListN.{length-set}
+use Rattle.pairs.specs.Pairs.{gathered, LeftAll}
 use Rattle.pairs.proofs.Leaves.{left_all_none, left_all_more, left_gathered}
 use Rattle.pairs.proofs.leave.Goals as goal
-
--- the call's answer is what the pair leaves of the permission at place k
-kept : (c : goal.After-left_of-kept invariant-loop decreases-loop) → c.left_of-kept.result
-    ≡ left_of c.args.positions.now c.args.ends.now c.args.m c.args.w1 c.args.w2 c.loop-k.k
-    (at (gathered c.args.order.now c.args.perms.now) c.loop-k.k)
-kept c =
-    let a = c.args in
-    left_gathered a.positions.now a.ends.now a.m a.w1 a.w2 a.order.now a.perms.now c.loop-k.k c.wide-row.result _ (omega arith)
-    c.wide-row.ensures c.left_of-kept.ensures
 
 pub loop-k-init : goal.loop-k-init
 loop-k-init c = let a = c.args in (omega arith, refl, left_all_none a.positions.now a.ends.now a.m a.w1 a.w2 (gathered a.order.now a.perms.now))
@@ -30,18 +19,25 @@ left_of-kept-requires c = (omega arith, omega arith, omega arith)
 
 pub returns-then-kept-eq0 : goal.returns-then-kept-eq0
 returns-then-kept-eq0 c =
+    let a = c.args in
+    let kept =
+    left_gathered a.positions.now a.ends.now a.m a.w1 a.w2 a.order.now a.perms.now c.loop-k.k c.wide-row.result _ (omega arith)
+    c.wide-row.ensures c.left_of-kept.ensures in
     record {
       all = λ e. absurd (false≢true e);
-      none = λ e. (c.loop-k.k, omega arith, sym (kept c.before) ∙ c.if-kept-eq0.true);
+      none = λ e. (c.loop-k.k, omega arith, sym kept ∙ c.if-kept-eq0.true);
     }
 
 pub loop-k-preserved : goal.loop-k-preserved
 loop-k-preserved c =
     let a = c.args in
-    let l = c.loop-k in (
+    let l = c.loop-k in
+    let kept =
+    left_gathered a.positions.now a.ends.now a.m a.w1 a.w2 a.order.now a.perms.now l.k c.wide-row.result _ (omega arith)
+    c.wide-row.ensures c.left_of-kept.ensures in (
       omega arith,
       simp length-set l.invariant.1,
-      left_all_more a.positions.now a.ends.now a.m a.w1 a.w2 (gathered a.order.now a.perms.now) l.k _ (omega arith) (kept c.before) c.if-kept-eq0.false l.invariant.2,
+      left_all_more a.positions.now a.ends.now a.m a.w1 a.w2 (gathered a.order.now a.perms.now) l.k _ (omega arith) kept c.if-kept-eq0.false l.invariant.2,
     )
 
 pub returns : goal.returns

@@ -1,13 +1,8 @@
 -- `pairs::leave` meets its contract: the loop has written what the pair leaves of the permissions that it passed, none of them 0.
-use Prim.Native.Nat.{ℕ, ◌≤◌, ◌-◌}
-use mathlib.Core.Path.{◌≡◌, refl, sym, subst, ◌∙◌}
-use mathlib.Core.Bool.{false≢true}
-use native.Mathlib.Omega.{arith}
-use borrow.Author.Rules.{rules}
-use lib.ListN.{length, length-set}
-use Rattle.basics.specs.Lists.{at}
-use Rattle.pairs.specs.Pairs.{gathered, left_of, LeftAll}
-use Rattle.pairs.proofs.Leaves.{left_all_none, left_all_more, left_gathered}
+use Prim.Native.Nat.{◌≤◌, ◌-◌}
+use mathlib.Core.Path.{◌≡◌}
+use lib.ListN.{length}
+use Rattle.pairs.specs.Pairs.{gathered, LeftAll}
 use Rattle.pairs.proofs.leave.Given as goal
 
 abbrev pub invariant-loop-k : goal.invariant-loop-k

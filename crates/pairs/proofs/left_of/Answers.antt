@@ -1,6 +1,5 @@
 -- `pairs::left_of` meets its contract: a crossing row keeps the given label, and another row the receivers that it can share.
 use Rattle.pairs.proofs.Leaves.{left_front, left_rest}
-use borrow.Author.Rules.{rules}
 use Rattle.pairs.proofs.left_of.Goals as goal
 
 pub returns-then-k-m : goal.returns-then-k-m

@@ -1,12 +1,11 @@
 -- `pairs::rest_best` meets its contract: what the call is handed are the rows from m on.
 use Rattle.pairs.proofs.Trials.{rest_line, rest_lows, rest_value}
-use borrow.Author.Rules.{rules}
 use Rattle.pairs.proofs.rest_best.Goals as goal
 
 pub line_best-requires : goal.line_best-requires
 line_best-requires c =
     let a = c.args in
-     record {
+    record {
       line = rest_line a.m a.positions.now a.ends.now a.left.now c.requires.line;
       lows = rest_lows a.m a.positions.now a.ends.now a.left.now _ c.requires.lows;
     }

@@ -1,9 +1,6 @@
 -- `pairs::second_best` meets its contract: the loop has tried the pairs (w1, w) with w from w2 on.
 use mathlib.Core.Path.{◌∙◌}
-use native.Mathlib.Omega.{arith}
-use borrow.Author.Rules.{rules}
-use Rattle.pairs.specs.Pairs.{gathered, PairFit}
-use Rattle.pairs.proofs.Trials.{Tried, tried_none, tried_ready, tried_more, tried_reached, tried_all}
+use Rattle.pairs.proofs.Trials.{tried_none, tried_ready, tried_more, tried_reached, tried_all}
 use Rattle.pairs.proofs.second_best.Goals as goal
 
 pub loop-w2-init : goal.loop-w2-init
@@ -14,12 +11,12 @@ pair_best-value-requires c = tried_ready c.loop-w2.invariant c.requires
 
 pub shape_of-left-then-cap-value : goal.shape_of-left-then-cap-value
 shape_of-left-then-cap-value c =
-    c.pair_best-value.auto.1.1.1.1.1.1.1.1.0
+    c.pair_best-value.auto.left
     ∙ c.loop-w2.invariant.same_left
 
 pub shape_of-space-then-cap-value : goal.shape_of-space-then-cap-value
 shape_of-space-then-cap-value c =
-    c.pair_best-value.auto.1.1.1.1.1.1.1.1.1.0
+    c.pair_best-value.auto.space
     ∙ c.loop-w2.invariant.same_space
 
 pub returns-then-cap-value : goal.returns-then-cap-value
@@ -28,7 +25,7 @@ returns-then-cap-value c =
 
 pub loop-w2-preserved : goal.loop-w2-preserved
 loop-w2-preserved c =
-    tried_more c.loop-w2.invariant c.loop-w2-test.true c.pair_best-value.ensures.0 c.pair_best-value.auto.1.1.1.1.1.1.1.1.0 c.pair_best-value.auto.1.1.1.1.1.1.1.1.1.0
+    tried_more c.loop-w2.invariant c.loop-w2-test.true c.pair_best-value.ensures.0 c.pair_best-value.auto.left c.pair_best-value.auto.space
     c.pair_best-value.ensures.1 c.larger-best.ensures
 
 pub shape_of-left : goal.shape_of-left

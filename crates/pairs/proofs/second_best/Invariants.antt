@@ -1,9 +1,6 @@
 -- `pairs::second_best` meets its contract: the loop has tried the pairs (w1, w) with w from w2 on.
-use mathlib.Core.Path.{◌∙◌}
-use native.Mathlib.Omega.{arith}
-use borrow.Author.Rules.{rules}
 use Rattle.pairs.specs.Pairs.{gathered, PairFit}
-use Rattle.pairs.proofs.Trials.{Tried, tried_none, tried_ready, tried_more, tried_reached, tried_all}
+use Rattle.pairs.proofs.Trials.{Tried}
 use Rattle.pairs.proofs.second_best.Given as goal
 
 abbrev pub invariant-loop-w2 : goal.invariant-loop-w2

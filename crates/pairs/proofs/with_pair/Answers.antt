@@ -1,7 +1,6 @@
 -- `pairs::with_pair` meets its contract: the value is at most 65, so two more fit.
 use native.Mathlib.Omega.{arith}
 use Rattle.pairs.proofs.Trials.{one_le, with_none, with_some}
-use borrow.Author.Rules.{rules}
 use Rattle.pairs.proofs.with_pair.Goals as goal
 
 pub returns-then-v-eq0 : goal.returns-then-v-eq0

@@ -1,7 +1,6 @@
 -- `plan_reader::head_at` meets its contract: the operand is that of the bytes from the place on.
 use mathlib.Core.Path.{◌∙◌}
 use native.Mathlib.Omega.{arith}
-use borrow.Author.Rules.{rules}
 use Rattle.tape.proofs.Heads.{word_at_drop}
 use Rattle.plan_reader.proofs.Items.{head_whole}
 use Rattle.plan_reader.proofs.head_at.Goals as goal

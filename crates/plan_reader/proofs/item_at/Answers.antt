@@ -1,6 +1,5 @@
 -- `plan_reader::item_at` meets its contract: the first command that begins at the place tells what stands there.
 use mathlib.Core.Path.{sym, ◌∙◌}
-use borrow.Author.Rules.{rules}
 use Rattle.plan_reader.specs.Items.{item_of}
 use Rattle.plan_reader.proofs.item_at.Goals as goal
 

@@ -1,6 +1,5 @@
 -- `plan_reader::receiver_at` meets its contract: the operand is that of the bytes from the place on.
 use native.Mathlib.Omega.{arith}
-use borrow.Author.Rules.{rules}
 use Rattle.plan_reader.proofs.Items.{receiver_whole, byte_at}
 use Rattle.plan_reader.proofs.receiver_at.Goals as goal
 

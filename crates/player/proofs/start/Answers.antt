@@ -1,9 +1,9 @@
 -- `player::start` meets its contract: the two checks in their order, and request 1 of what they give.
 use mathlib.Core.Path.{refl, sym, ◌∙◌}
 use native.Mathlib.Omega.{arith}
-use borrow.Author.Rules.{rules}
 use borrow.Author.Tests.{lt-ltb, le-ltb, not-true, not-false}
-use Rattle.player.specs.Played.{start_refusal, started}
+use Rattle.refusals.specs.declared.Refusal.TheVariants.{Accepted}
+use Rattle.player.specs.Played.{player_at, start_refusal, starting, started}
 use Rattle.player.proofs.Request1.{start_said}
 use Rattle.player.proofs.start.Goals as goal
 
@@ -11,7 +11,7 @@ pub returns-then-not-is_plan_tape : goal.returns-then-not-is_plan_tape
 unfolding started start_refusal
 returns-then-not-is_plan_tape c =
     let a = c.args in
-    let said = start_said a.tape.now (λ i. omega (arith, c.shared_slice_known-1.given i)) a.first
+    let said = start_said a.tape.now (λ i. omega (arith, c.shared_slice_known-1.given i)) a.first {out = c.refuse.result}
     (rw (sym c.is_plan_tape.ensures.computed ∙ not-true _ c.if-not-is_plan_tape.true-raw) c.refuse.ensures) in
     record { started = said.0; request = said.1 }
 
@@ -19,7 +19,7 @@ pub returns-then-ticks_of-first : goal.returns-then-ticks_of-first
 unfolding started start_refusal
 returns-then-ticks_of-first c =
     let a = c.args in
-    let said = start_said a.tape.now (λ i. omega (arith, c.shared_slice_known-1.given i)) a.first
+    let said = start_said a.tape.now (λ i. omega (arith, c.shared_slice_known-1.given i)) a.first {out = c.refuse-then-ticks_of-first.result}
     (rw (
       sym c.is_plan_tape.ensures.computed ∙ not-false _ c.if-not-is_plan_tape.false-raw,
       ← c.ticks_of.ensures,
@@ -31,7 +31,7 @@ pub returns : goal.returns
 unfolding started start_refusal
 returns c =
     let a = c.args in
-    let said = start_said a.tape.now (λ i. omega (arith, c.shared_slice_known-1.given i)) a.first
+    let said = start_said a.tape.now (λ i. omega (arith, c.shared_slice_known-1.given i)) a.first {out = starting Accepted (player_at a.first)}
     (rw (
       sym c.is_plan_tape.ensures.computed ∙ not-false _ c.if-not-is_plan_tape.false-raw,
       ← c.ticks_of.ensures,

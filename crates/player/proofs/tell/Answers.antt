@@ -1,6 +1,5 @@
 -- `player::tell` meets its contract: one test tells which of the two it is.
 use mathlib.Core.Path.{sym, ◌∙◌}
-use borrow.Author.Rules.{rules}
 use Rattle.player.proofs.tell.Goals as goal
 
 pub returns-then-lies_in : goal.returns-then-lies_in

@@ -1,5 +1,4 @@
 -- `player::tell_at` meets its contract: the second receiver stands after the first one's LISTENs.
-use borrow.Author.Rules.{rules}
 use Rattle.player.proofs.tell_at.Goals as goal
 
 pub returns : goal.returns

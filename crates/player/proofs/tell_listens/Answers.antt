@@ -1,12 +1,8 @@
 -- `player::tell_listens` meets its contract. The loop's invariant: what all LISTENs tell is what those from the place on tell after what was told so far. The measure is what is left of the tape.
-use Prim.Native.Nat.{◌-◌}
-use mathlib.Core.Path.{◌≡◌, refl, sym, ◌∙◌}
+use mathlib.Core.Path.{refl, sym, ◌∙◌}
 use native.Mathlib.Omega.{arith}
-use borrow.Author.Rules.{rules}
-use lib.ListN.{length, drop}
-use Rattle.plan_tape.specs.Stated.{listens_in, after_listens}
+use borrow.Enum.Refused.{opened}
 use Rattle.plan_reader.proofs.Listens.{listen_at_of, no_listen}
-use Rattle.player.specs.declared.Receiver.TheVariants.{Idle}
 use Rattle.player.specs.Told.{telling}
 use Rattle.player.proofs.tell_listens.Goals as goal
 
@@ -18,8 +14,8 @@ unfolding telling
 returns-in_default c =
     let l = c.loop-row in
     let a = c.args in
-    let n = no_listen a.tape.now l.at c.item_at-item.ensures c.in_default.in_default-own.keys2 in
-     record {
+    let n = no_listen a.tape.now l.at c.item_at-item.ensures (opened c.in_default.in_default-own.keys2) in
+    record {
       receiver_value = sym (l.invariant.0 ∙ rw n.listens refl);
       tape_value = sym (l.invariant.1 ∙ n.rest);
     }

@@ -1,11 +1,8 @@
 -- `player::tell_listens` meets its contract. The loop's invariant: what all LISTENs tell is what those from the place on tell after what was told so far. The measure is what is left of the tape.
 use Prim.Native.Nat.{◌-◌}
-use mathlib.Core.Path.{◌≡◌, refl, sym, ◌∙◌}
-use native.Mathlib.Omega.{arith}
-use borrow.Author.Rules.{rules}
+use mathlib.Core.Path.{◌≡◌}
 use lib.ListN.{length, drop}
 use Rattle.plan_tape.specs.Stated.{listens_in, after_listens}
-use Rattle.plan_reader.proofs.Listens.{listen_at_of, no_listen}
 use Rattle.player.specs.declared.Receiver.TheVariants.{Idle}
 use Rattle.player.specs.Told.{telling}
 use Rattle.player.proofs.tell_listens.Given as goal

@@ -1,5 +1,4 @@
 -- `player_calls::is_start` meets its contract: each comparison is a clause of `is_start`.
-use borrow.Author.Rules.{rules}
 use borrow.Author.Tests.{eq-eqb, ne_eqb}
 use Rattle.player_calls.specs.Judged.{is_start}
 use Rattle.player_calls.proofs.is_start.Goals as goal

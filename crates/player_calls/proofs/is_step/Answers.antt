@@ -1,6 +1,5 @@
 -- `player_calls::is_step` meets its contract: each comparison is a clause of `is_step`.
 use mathlib.Core.Path.{sym, ◌∙◌}
-use borrow.Author.Rules.{rules}
 use borrow.Author.Tests.{eq-eqb, ne_eqb, not-true, not-false}
 use Rattle.player_calls.specs.Judged.{is_step}
 use Rattle.player_calls.proofs.is_step.Goals as goal

@@ -1,5 +1,4 @@
 -- `player_calls::number_of` meets its contract, case for case.
-use borrow.Author.Rules.{rules}
 use Rattle.player_calls.proofs.number_of.Goals as goal
 
 pub returns-in-Listening : goal.returns-in-Listening

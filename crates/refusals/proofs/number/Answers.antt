@@ -1,6 +1,5 @@
 -- `refusals::number` meets its contract: each arm gives the number of its refusal.
 use mathlib.Core.Path.{sym, ap}
-use borrow.Author.Rules.{rules}
 use Rattle.refusals.specs.Refusals.{number_of}
 use Rattle.refusals.proofs.number.Goals as goal
 

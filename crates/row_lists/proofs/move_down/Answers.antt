@@ -1,9 +1,8 @@
 -- `row_lists::move_down` meets its contract: the rows from where the loop has come have moved.
-use Prim.Native.Nat.{◌-◌, ◌≤◌, ◌<◌}
+use Prim.Native.Nat.{◌-◌}
 use mathlib.Core.Path.{◌≡◌, sym, ◌∙◌}
 use native.Mathlib.Omega.{arith}
-use Rattle.basics.specs.Limits.{max_rows}
-use Rattle.row_lists.proofs.Moving.{Down, down_none, down_more, Each, row_in, each_none, each_more}
+use Rattle.row_lists.proofs.Moving.{down_none, down_more, row_in, each_none, each_more}
 use Rattle.row_lists.proofs.move_down.Goals as goal
 
 pub overflow_sub-i : goal.overflow_sub-i
@@ -29,7 +28,8 @@ loop-i-preserved c =
     let l = c.loop-i in
     let s = c.args in
     let row = c.row_at-before in
-    (omega arith, omega arith, l.invariant.2, each_more l.i (l.i - 1) row.result l.invariant.3 (λ a m e. down_more a (s.rows - 1) l.i m (omega arith) (omega arith) (omega arith)) row.ensures c.set_row.ensures)
+    let x = c.set_row.ensures in
+    (omega arith, omega arith, l.invariant.2, each_more l.i (l.i - 1) row.result l.invariant.3 (λ a m e. down_more a (s.rows - 1) l.i m (omega arith) (omega arith) (omega arith)) row.ensures (x.starts_after, (x.ends_after, x.marks_after)))
 
 pub shape_of-starts : goal.shape_of-starts
 shape_of-starts c = let l = c.loop-i in l.invariant.3.now.starts_64 ∙ sym l.invariant.3.before.starts_64
@@ -45,5 +45,4 @@ returns c =
     let l = c.loop-i in
     let e = l.invariant.3 in
     let k : l.i ≡ c.args.k = omega arith in
-    let said = rw (← k) (e.starts_are, (e.ends_are, e.marks_are)) in
-    record { starts_after = said.0; ends_after = said.1; marks_after = said.2 }
+    record { starts_after = rw (← k) e.starts_are; ends_after = rw (← k) e.ends_are; marks_after = rw (← k) e.marks_are }

@@ -1,9 +1,7 @@
 -- `row_lists::move_down` meets its contract: the rows from where the loop has come have moved.
 use Prim.Native.Nat.{◌-◌, ◌≤◌, ◌<◌}
-use mathlib.Core.Path.{◌≡◌, sym, ◌∙◌}
-use native.Mathlib.Omega.{arith}
 use Rattle.basics.specs.Limits.{max_rows}
-use Rattle.row_lists.proofs.Moving.{Down, down_none, down_more, Each, row_in, each_none, each_more}
+use Rattle.row_lists.proofs.Moving.{Down, Each}
 use Rattle.row_lists.proofs.move_down.Given as goal
 
 abbrev pub invariant-loop-i : goal.invariant-loop-i

@@ -1,12 +1,7 @@
 -- `row_lists::move_up` meets its contract: the rows as far as the loop has come have moved.
-use Prim.Native.Nat.{ℕ, ◌+◌, ◌-◌, ◌≤◌, ◌<◌}
-use mathlib.Core.Path.{◌≡◌, sym, ◌∙◌}
-use mathlib.Core.List.{List}
-use lib.ListN.{length}
-use native.Mathlib.Omega.{arith}
+use Prim.Native.Nat.{◌-◌, ◌≤◌, ◌<◌}
 use Rattle.basics.specs.Limits.{max_rows}
-use Rattle.row_lists.specs.Moved.{moved_up}
-use Rattle.row_lists.proofs.Moving.{Up, up_none, up_more, up_done, Each, row_in, each_none, each_more}
+use Rattle.row_lists.proofs.Moving.{Up, Each}
 use Rattle.row_lists.proofs.move_up.Given as goal
 
 abbrev pub invariant-loop-i : goal.invariant-loop-i

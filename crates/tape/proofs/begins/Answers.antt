@@ -2,7 +2,6 @@
 use mathlib.Core.Path.{sym}
 use native.Mathlib.Omega.{arith}
 use Rattle.tape.proofs.Heads.{fits_at, short_at}
-use borrow.Author.Rules.{rules}
 use Rattle.tape.proofs.begins.Goals as goal
 
 pub returns-then-tape-at : goal.returns-then-tape-at

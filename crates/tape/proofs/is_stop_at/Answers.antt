@@ -4,7 +4,6 @@ use native.Mathlib.Omega.{arith}
 use lib.ListN.{length-drop}
 use Rattle.tape.specs.Commands.{STOP}
 use Rattle.tape.proofs.Heads.{begins_at}
-use borrow.Author.Rules.{rules}
 use Rattle.tape.proofs.is_stop_at.Goals as goal
 
 pub overflow_sub-result : goal.overflow_sub-result

@@ -1,7 +1,6 @@
 -- `tape::operand_bytes` meets its contract: the table has the widths, and a byte past it is no command.
 use mathlib.Core.Path.{sym}
 use native.Mathlib.Omega.{arith}
-use borrow.Author.Rules.{rules}
 use Rattle.tape.proofs.Widths.{widths_right, widths_small, no_operands}
 use Rattle.tape.proofs.operand_bytes.Goals as goal
 

@@ -1,6 +1,5 @@
 -- `tape::past` meets its contract: the command and its operands end within the tape.
 use native.Mathlib.Omega.{arith}
-use borrow.Author.Rules.{rules}
 use Rattle.tape.proofs.Heads.{begins_at}
 use Rattle.tape.proofs.past.Goals as goal
 

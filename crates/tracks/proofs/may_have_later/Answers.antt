@@ -2,7 +2,6 @@
 use mathlib.Core.Path.{◌≡◌, sym, ◌∙◌}
 use mathlib.Core.Bool.{false≢true}
 use native.Mathlib.Omega.{arith}
-use borrow.Author.Rules.{rules}
 use Rattle.tracks.proofs.Trying.{none_later, later_1, later_2}
 use Rattle.tracks.proofs.may_have_later.Goals as goal
 

@@ -1,11 +1,8 @@
 -- `tracks::narrow` meets its contract: a turn narrows one row more.
 use Prim.Native.Nat.{◌-◌}
-use native.Mathlib.Omega.{arith}
 use lib.ListN.{length}
 use Rattle.tracks.specs.Narrowing.{Ordered}
-use Rattle.pairs.proofs.Trials.{ready_again}
-use Rattle.tracks.proofs.Trying.{ready_for}
-use Rattle.tracks.proofs.Progress.{Progress, progress_none, progress_more, progress_done}
+use Rattle.tracks.proofs.Progress.{Progress}
 use Rattle.tracks.proofs.narrow.Given as goal
 
 abbrev pub invariant-loop-i : goal.invariant-loop-i

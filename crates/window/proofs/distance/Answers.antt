@@ -1,6 +1,5 @@
 -- `window::distance` meets its contract: each way is a law of `distance`.
 use native.Mathlib.Omega.{arith}
-use borrow.Author.Rules.{rules}
 use Rattle.window.proofs.Circle.{distance_after, distance_before}
 use Rattle.window.proofs.distance.Goals as goal
 

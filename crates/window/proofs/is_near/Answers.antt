@@ -1,5 +1,4 @@
 -- `window::is_near` meets its contract: one test and the kind tell which sums are compared.
-use borrow.Author.Rules.{rules}
 use borrow.Author.Tests.{lt-leb}
 use Rattle.window.specs.Gaps.{is_near}
 use Rattle.window.proofs.Gaps.{near_on}

@@ -1,5 +1,4 @@
 -- `window::is_window` meets its contract: each way through its code is a way to compute `is_window`.
-use borrow.Author.Rules.{rules}
 use borrow.Author.Tests.{lt-ltb, le-ltb}
 use Rattle.window.proofs.is_window.Goals as goal
 

@@ -1,7 +1,6 @@
 -- `window::lies_in` meets its contract: each way through its code is a way to compute `lies_in`.
 use mathlib.Core.Path.{sym, ◌∙◌}
 use native.Mathlib.Omega.{arith}
-use borrow.Author.Rules.{rules}
 use borrow.Author.Tests.{le-ltb, lt-ltb, not-true, not-false}
 use mathlib.Core.Bool.{false}
 use lib.Dec.{ltb}

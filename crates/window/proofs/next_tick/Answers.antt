@@ -1,7 +1,6 @@
 -- `window::next_tick` meets its contract: the kind and one test tell which tick comes.
 use Prim.Native.Nat.{suc}
 use native.Mathlib.Omega.{arith}
-use borrow.Author.Rules.{rules}
 use borrow.Author.Tests.{eq-eqb, ne_eqb}
 use native.Mathlib.Numerals.{add-one}
 use Rattle.window.proofs.next_tick.Goals as goal

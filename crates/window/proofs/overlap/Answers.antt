@@ -1,5 +1,4 @@
 -- `window::overlap` meets its contract: the two calls are the two halves of `overlaps`.
-use borrow.Author.Rules.{rules}
 use mathlib.Core.Bool.{true}
 use Rattle.window.specs.Windows.{overlaps}
 use Rattle.window.proofs.Meaning.{overlaps_said}

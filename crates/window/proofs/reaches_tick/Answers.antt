@@ -1,5 +1,4 @@
 -- `window::reaches_tick` meets its contract: the two calls are the two halves of `reaches`.
-use borrow.Author.Rules.{rules}
 use Rattle.window.specs.Gaps.{reaches}
 use Rattle.window.proofs.reaches_tick.Goals as goal
 

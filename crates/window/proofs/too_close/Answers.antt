@@ -1,5 +1,4 @@
 -- `window::too_close` meets its contract: the two calls are the two halves of `too_close`.
-use borrow.Author.Rules.{rules}
 use mathlib.Core.Bool.{true}
 use Rattle.window.specs.Gaps.{too_close}
 use Rattle.window.proofs.Gaps.{too_close_said}

@@ -3,7 +3,6 @@ use Prim.Native.Nat.{ℕ, ◌/◌, ◌^◌}
 use mathlib.Core.Path.{ap}
 use lib.Dec.{eqb}
 use lib.Bits.{and_mask}
-use borrow.Author.Rules.{rules}
 use Rattle.bit_words.proofs.bits.has_bit.Goals as goal
 
 pub returns : goal.returns

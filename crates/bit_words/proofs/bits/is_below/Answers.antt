@@ -2,7 +2,6 @@
 use mathlib.Core.Path.{sym}
 use borrow.Author.Tests.{lt-ltb}
 use Rattle.bit_words.proofs.BitLaws.{below_test}
-use borrow.Author.Rules.{rules}
 use Rattle.bit_words.proofs.bits.is_below.Goals as goal
 
 pub returns-then-n-eq-WORD_BITS : goal.returns-then-n-eq-WORD_BITS

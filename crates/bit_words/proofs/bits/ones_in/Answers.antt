@@ -2,7 +2,6 @@
 use native.Mathlib.Nat.{lt_of_le_of_lt}
 use lib.Dec.{lit<}
 use lib.Count.{ones-le}
-use borrow.Author.Rules.{rules}
 use Rattle.bit_words.proofs.bits.ones_in.Goals as goal
 
 pub overflow_cast-result : goal.overflow_cast-result

@@ -1,6 +1,5 @@
 -- `bit_words::bits::with_bit` meets its contract: the place was free.
 use Rattle.bit_words.proofs.BitLaws.{or_placed}
-use borrow.Author.Rules.{rules}
 use native.Mathlib.Omega.{arith}
 use Rattle.bit_words.proofs.bits.with_bit.Goals as goal
 

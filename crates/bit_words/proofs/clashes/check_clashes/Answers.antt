@@ -6,7 +6,6 @@ use Rattle.refusals.proofs.Refusals.{then_first, then_next}
 use Rattle.table.proofs.Checked.{lengths_passed}
 use Rattle.bit_words.specs.Clashes.{clash_refusal}
 use Rattle.bit_words.proofs.Clashing.{lengths_so}
-use borrow.Author.Rules.{rules}
 use Rattle.bit_words.proofs.clashes.check_clashes.Goals as goal
 
 pub returns-then-number-ne0 : goal.returns-then-number-ne0

@@ -1,5 +1,5 @@
 -- `bit_words::clashes::clash_word` meets its contract: the word made so far is that of the rows passed.
-use Prim.Native.Nat.{ℕ, ◌≤◌, ◌-◌}
+use Prim.Native.Nat.{ℕ}
 use mathlib.Core.Path.{◌≡◌, ap, ◌∙◌}
 use lib.ListN.{length}
 use Rattle.bit_words.specs.Bits.{word_of}
@@ -14,7 +14,7 @@ loop-j-init c = (omega arith, word_none _)
 pub is_other_clash-requires : goal.is_other_clash-requires
 is_other_clash-requires c =
     let p = c.requires in
-     record {
+    record {
       window_in = record { each_end = p.windows_lent.each_end; below = p.i_in_bounds };
       window_in_2 = record { each_end = p.windows_lent.each_end; below = c.loop-j-test.true };
     }

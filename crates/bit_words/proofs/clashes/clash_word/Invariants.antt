@@ -1,11 +1,9 @@
 -- `bit_words::clashes::clash_word` meets its contract: the word made so far is that of the rows passed.
-use Prim.Native.Nat.{ℕ, ◌≤◌, ◌-◌}
-use mathlib.Core.Path.{◌≡◌, ap, ◌∙◌}
+use Prim.Native.Nat.{◌≤◌, ◌-◌}
+use mathlib.Core.Path.{◌≡◌}
 use lib.ListN.{length}
 use Rattle.bit_words.specs.Bits.{word_of}
-use Rattle.bit_words.specs.Clashes.{windows_of, is_clash, clash_word}
-use Rattle.bit_words.proofs.BitLaws.{word_none, word_more, word_free}
-use native.Mathlib.Omega.{arith}
+use Rattle.bit_words.specs.Clashes.{windows_of, is_clash}
 use Rattle.bit_words.proofs.clashes.clash_word.Given as goal
 
 abbrev pub invariant-loop-j : goal.invariant-loop-j

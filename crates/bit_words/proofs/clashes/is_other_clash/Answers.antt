@@ -4,7 +4,6 @@ use borrow.Author.Tests.{eq-eqb, ne_eqb}
 use Rattle.table.specs.Tables.{clashes}
 use Rattle.bit_words.specs.Clashes.{is_clash}
 use Rattle.bit_words.proofs.Clashing.{row_alone}
-use borrow.Author.Rules.{rules}
 use Rattle.bit_words.proofs.clashes.is_other_clash.Goals as goal
 
 pub returns-then-i-j : goal.returns-then-i-j

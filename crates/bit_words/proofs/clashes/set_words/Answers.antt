@@ -1,9 +1,5 @@
 -- `bit_words::clashes::set_words` meets its contract: the rows passed have their words.
-use Prim.Native.Nat.{◌≤◌, ◌-◌}
-use lib.ListN.{length}
-use Rattle.basics.proofs.Filling.{Filled, filled_none, filled_more, filled_list}
-use Rattle.bit_words.specs.Clashes.{windows_of, clash_word}
-use borrow.Author.Rules.{rules}
+use Rattle.basics.proofs.Filling.{filled_none, filled_more, filled_list}
 use native.Mathlib.Omega.{arith}
 use Rattle.bit_words.proofs.clashes.set_words.Goals as goal
 
@@ -11,10 +7,10 @@ pub loop-i-init : goal.loop-i-init
 loop-i-init c = (omega arith, filled_none _ _)
 
 pub clash_word-requires : goal.clash_word-requires
-clash_word-requires c =  record {
-      windows_lent = c.requires.windows_lent;
-      i_in_bounds = c.loop-i-test.true;
-    }
+clash_word-requires c = record {
+  windows_lent = c.requires.windows_lent;
+  i_in_bounds = c.loop-i-test.true;
+}
 
 pub bounds-words-i : goal.bounds-words-i
 bounds-words-i c = omega (arith, c.loop-i.invariant.1.each, c.requires.words_len)

@@ -1,10 +1,8 @@
 -- `bit_words::clashes::set_words` meets its contract: the rows passed have their words.
 use Prim.Native.Nat.{◌≤◌, ◌-◌}
 use lib.ListN.{length}
-use Rattle.basics.proofs.Filling.{Filled, filled_none, filled_more, filled_list}
+use Rattle.basics.proofs.Filling.{Filled}
 use Rattle.bit_words.specs.Clashes.{windows_of, clash_word}
-use borrow.Author.Rules.{rules}
-use native.Mathlib.Omega.{arith}
 use Rattle.bit_words.proofs.clashes.set_words.Given as goal
 
 abbrev pub invariant-loop-i : goal.invariant-loop-i

@@ -1,6 +1,5 @@
 -- `labels::permission::may_keep` meets its contract.
 use mathlib.Core.Path.{sym, ◌∙◌}
-use borrow.Author.Rules.{rules}
 use Rattle.labels.proofs.permission.may_keep.Goals as goal
 
 pub returns-then-may_have : goal.returns-then-may_have

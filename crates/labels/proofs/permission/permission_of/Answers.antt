@@ -1,6 +1,5 @@
 -- `labels::permission::permission_of` meets its contract: each bit is at most 1, so the sum fits.
 use native.Mathlib.Omega.{arith}
-use borrow.Author.Rules.{rules}
 use Rattle.labels.specs.Permission.{permission}
 use Rattle.labels.proofs.Permissions.{bit_le}
 use Rattle.labels.proofs.permission.permission_of.Goals as goal

@@ -1,5 +1,4 @@
 -- `labels::permission::restricted` meets its contract.
-use borrow.Author.Rules.{rules}
 use Rattle.labels.proofs.permission.restricted.Goals as goal
 
 pub returns : goal.returns

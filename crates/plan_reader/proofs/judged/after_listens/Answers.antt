@@ -1,10 +1,7 @@
 -- `plan_reader::judged::after_listens` meets its contract. The loop's invariant: the bytes after the LISTENs are those after the LISTENs from the place on. The measure is what is left of the tape.
-use Prim.Native.Nat.{◌-◌}
-use mathlib.Core.Path.{◌≡◌, refl, sym, ◌∙◌}
+use mathlib.Core.Path.{sym, ◌∙◌}
 use native.Mathlib.Omega.{arith}
-use borrow.Author.Rules.{rules}
-use lib.ListN.{length, drop}
-use Rattle.plan_tape.specs.Stated.{after_listens}
+use borrow.Enum.Refused.{opened}
 use Rattle.plan_reader.proofs.Listens.{listen_at_of, no_listen}
 use Rattle.plan_reader.proofs.judged.after_listens.Goals as goal
 
@@ -12,7 +9,7 @@ pub returns-in_default : goal.returns-in_default
 returns-in_default c =
     let l = c.loop-next in
     let a = c.args in
-    sym (l.invariant ∙ (no_listen a.tape.now l.at c.item_at-item.ensures c.in_default.in_default-own.keys2).rest)
+    sym (l.invariant ∙ (no_listen a.tape.now l.at c.item_at-item.ensures (opened c.in_default.in_default-own.keys2)).rest)
 
 pub loop-next-smaller : goal.loop-next-smaller
 loop-next-smaller c =

@@ -1,11 +1,8 @@
 -- `plan_reader::judged::after_listens` meets its contract. The loop's invariant: the bytes after the LISTENs are those after the LISTENs from the place on. The measure is what is left of the tape.
 use Prim.Native.Nat.{◌-◌}
-use mathlib.Core.Path.{◌≡◌, refl, sym, ◌∙◌}
-use native.Mathlib.Omega.{arith}
-use borrow.Author.Rules.{rules}
+use mathlib.Core.Path.{◌≡◌}
 use lib.ListN.{length, drop}
 use Rattle.plan_tape.specs.Stated.{after_listens}
-use Rattle.plan_reader.proofs.Listens.{listen_at_of, no_listen}
 use Rattle.plan_reader.proofs.judged.after_listens.Given as goal
 
 abbrev pub invariant-loop-next : goal.invariant-loop-next

@@ -1,6 +1,5 @@
 -- `plan_reader::judged::are_parts` meets its contract: each test is a clause of `are_parts`.
 use mathlib.Core.Path.{sym, ◌∙◌}
-use borrow.Author.Rules.{rules}
 use borrow.Author.Tests.{eq-eqb, ne_eqb, not-true, not-false}
 use Rattle.plan_reader.specs.Judged.{are_parts}
 use Rattle.plan_reader.proofs.judged.are_parts.Goals as goal

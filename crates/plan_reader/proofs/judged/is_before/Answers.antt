@@ -1,6 +1,5 @@
 -- `plan_reader::judged::is_before` meets its contract: each test is a clause of `is_before`.
 use mathlib.Core.Path.{sym, ◌∙◌}
-use borrow.Author.Rules.{rules}
 use borrow.Author.Tests.{lt-ltb, le-ltb}
 use Rattle.plan_reader.proofs.judged.is_before.Goals as goal
 

@@ -1,5 +1,4 @@
 -- `plan_reader::judged::is_listen` meets its contract: the row, and then the window.
-use borrow.Author.Rules.{rules}
 use borrow.Author.Tests.{lt-ltb, le-ltb}
 use Rattle.plan_reader.proofs.judged.is_listen.Goals as goal
 

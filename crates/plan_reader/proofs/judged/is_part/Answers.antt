@@ -1,11 +1,8 @@
 -- `plan_reader::judged::is_part` meets its contract. The loop's invariant: what is left to ask is asked of the LISTENs from the place on. The measure is what is left of the tape.
-use Prim.Native.Nat.{◌-◌}
-use mathlib.Core.Path.{◌≡◌, refl, sym, ◌∙◌}
+use mathlib.Core.Path.{refl, sym, ◌∙◌}
 use native.Mathlib.Omega.{arith}
-use borrow.Author.Rules.{rules}
+use borrow.Enum.Refused.{opened}
 use borrow.Author.Tests.{not-true, not-false}
-use lib.ListN.{length, drop}
-use Rattle.plan_tape.specs.Stated.{listens_in}
 use Rattle.plan_reader.specs.Judged.{is_part}
 use Rattle.plan_reader.proofs.Listens.{listen_at_of, no_listen}
 use Rattle.plan_reader.proofs.judged.is_part.Goals as goal
@@ -15,7 +12,7 @@ unfolding is_part
 returns-in_default c =
     let l = c.loop-row in
     let a = c.args in
-    sym (l.invariant ∙ rw (no_listen a.tape.now l.at c.item_at-item.ensures c.in_default.in_default-own.keys2).listens refl)
+    sym (l.invariant ∙ rw (no_listen a.tape.now l.at c.item_at-item.ensures (opened c.in_default.in_default-own.keys2)).listens refl)
 
 pub returns-then-not-is_listen : goal.returns-then-not-is_listen
 unfolding is_part

@@ -1,13 +1,9 @@
 -- `plan_reader::judged::is_part` meets its contract. The loop's invariant: what is left to ask is asked of the LISTENs from the place on. The measure is what is left of the tape.
 use Prim.Native.Nat.{◌-◌}
-use mathlib.Core.Path.{◌≡◌, refl, sym, ◌∙◌}
-use native.Mathlib.Omega.{arith}
-use borrow.Author.Rules.{rules}
-use borrow.Author.Tests.{not-true, not-false}
+use mathlib.Core.Path.{◌≡◌}
 use lib.ListN.{length, drop}
 use Rattle.plan_tape.specs.Stated.{listens_in}
 use Rattle.plan_reader.specs.Judged.{is_part}
-use Rattle.plan_reader.proofs.Listens.{listen_at_of, no_listen}
 use Rattle.plan_reader.proofs.judged.is_part.Given as goal
 
 abbrev pub invariant-loop-row : goal.invariant-loop-row

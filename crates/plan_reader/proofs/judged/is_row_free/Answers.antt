@@ -1,12 +1,9 @@
 -- `plan_reader::judged::is_row_free` meets its contract. The loop's invariant: what is left to ask is asked of the LISTENs from the place on. The measure is what is left of the tape.
-use Prim.Native.Nat.{◌-◌}
-use mathlib.Core.Path.{◌≡◌, refl, sym, ◌∙◌}
+use mathlib.Core.Path.{refl, sym, ◌∙◌}
 use native.Mathlib.Omega.{arith}
-use borrow.Author.Rules.{rules}
+use borrow.Enum.Refused.{opened}
 use borrow.Author.Tests.{eq-eqb, ne_eqb}
-use lib.ListN.{length, drop}
-use Rattle.plan_tape.specs.Stated.{listens_in}
-use Rattle.plan_reader.specs.Judged.{all_of, is_other}
+use Rattle.plan_reader.specs.Judged.{all_of}
 use Rattle.plan_reader.proofs.Listens.{listen_at_of, no_listen}
 use Rattle.plan_reader.proofs.judged.is_row_free.Goals as goal
 
@@ -15,7 +12,7 @@ unfolding all_of
 returns-in_default c =
     let l = c.loop-other in
     let a = c.args in
-    sym (l.invariant ∙ rw (no_listen a.tape.now l.at c.item_at-item.ensures c.in_default.in_default-own.keys2).listens refl)
+    sym (l.invariant ∙ rw (no_listen a.tape.now l.at c.item_at-item.ensures (opened c.in_default.in_default-own.keys2)).listens refl)
 
 pub returns-then-row-other : goal.returns-then-row-other
 unfolding all_of

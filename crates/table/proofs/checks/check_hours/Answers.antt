@@ -2,7 +2,6 @@
 use Rattle.table.specs.Checks.{hours_refusal}
 use borrow.Author.Tests.{not-true, not-false}
 use mathlib.Core.Path.{sym}
-use borrow.Author.Rules.{rules}
 use Rattle.table.proofs.checks.check_hours.Goals as goal
 
 pub returns-in-Round : goal.returns-in-Round

@@ -2,7 +2,6 @@
 use Rattle.table.specs.Checks.{row_refusal}
 use borrow.Author.Tests.{not-true, not-false, le-leb, lt-leb}
 use mathlib.Core.Path.{sym}
-use borrow.Author.Rules.{rules}
 use Rattle.table.proofs.checks.check_row.Goals as goal
 
 pub returns-then-not-is_window : goal.returns-then-not-is_window

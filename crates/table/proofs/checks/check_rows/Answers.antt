@@ -1,13 +1,9 @@
 -- `table::checks::check_rows` meets its contract: while it goes on, the rows from i on are still to be looked at.
-use Rattle.table.proofs.Looking.{Ahead, uneven_ends, uneven_marks, ahead_all, ahead_refused, ahead_more, ahead_done}
-use Rattle.table.specs.Tables.{table}
+use Rattle.table.proofs.Looking.{uneven_ends, uneven_marks, ahead_all, ahead_refused, ahead_more, ahead_done}
 use Rattle.table.specs.Checks.{row_refusal}
 use Rattle.refusals.specs.Refusals.{number_of}
-use lib.ListN.{length}
-use borrow.Author.Rules.{rules}
 use native.Mathlib.Omega.{arith}
-use mathlib.Core.Path.{◌≡◌, ◌∙◌, sym, ap}
-use Prim.Native.Nat.{◌≤◌, ◌-◌}
+use mathlib.Core.Path.{◌∙◌, sym, ap}
 use Rattle.table.proofs.checks.check_rows.Goals as goal
 
 pub returns-then-ends-starts : goal.returns-then-ends-starts

@@ -1,6 +1,5 @@
 -- `table::checks::check_setting` meets its contract: each check in its turn.
 use mathlib.Core.Path.{sym, ap, ◌∙◌}
-use borrow.Author.Rules.{rules}
 use Rattle.refusals.proofs.Refusals.{then_first, then_next}
 use Rattle.table.specs.Checks.{hours_refusal, setting_refusal}
 use Rattle.table.proofs.checks.check_setting.Goals as goal

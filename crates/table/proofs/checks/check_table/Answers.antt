@@ -2,7 +2,6 @@
 use Rattle.table.specs.Checks.{table_looked}
 use borrow.Author.Tests.{eq-eqb, ne_eqb}
 use mathlib.Core.Path.{sym, ◌∙◌}
-use borrow.Author.Rules.{rules}
 use Rattle.table.proofs.checks.check_table.Goals as goal
 
 pub returns-then-number-ne0 : goal.returns-then-number-ne0

@@ -1,6 +1,5 @@
 -- `table::checks::is_hours` meets its contract.
 use borrow.Author.Tests.{le-leb, lt-leb}
-use borrow.Author.Rules.{rules}
 use Rattle.table.proofs.checks.is_hours.Goals as goal
 
 pub returns-then-hours-receiver : goal.returns-then-hours-receiver

@@ -1,7 +1,6 @@
 -- `table::plan::is_allowed` meets its contract.
 use Rattle.table.proofs.Testing.{allowed_past, allowed_wrong, allowed_none, allowed_heard}
 use mathlib.Core.Path.{◌∙◌, sym}
-use borrow.Author.Rules.{rules}
 use borrow.Author.Tests.{not-true, not-false}
 use Rattle.table.proofs.plan.is_allowed.Goals as goal
 

@@ -2,7 +2,6 @@
 use Rattle.table.proofs.Testing.{apart_unheard, apart_receivers, apart_windows}
 use mathlib.Core.Bool.{not}
 use mathlib.Core.Path.{◌∙◌, ap}
-use borrow.Author.Rules.{rules}
 use Rattle.table.proofs.plan.is_apart.Goals as goal
 
 pub returns-then-label-eq0 : goal.returns-then-label-eq0

@@ -1,6 +1,5 @@
 -- `table::plan::is_clash` meets its contract.
 use Rattle.table.specs.Tables.{clashes}
-use borrow.Author.Rules.{rules}
 use Rattle.table.proofs.plan.is_clash.Goals as goal
 
 pub returns : goal.returns

@@ -1,7 +1,6 @@
 -- `table::plan::is_open` meets its contract.
 use Rattle.table.proofs.Testing.{open_within, open_outside}
 use native.Mathlib.Omega.{arith}
-use borrow.Author.Rules.{rules}
 use Rattle.table.proofs.plan.is_open.Goals as goal
 
 pub returns-then-hours-receiver : goal.returns-then-hours-receiver
