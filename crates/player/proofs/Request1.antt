@@ -43,7 +43,7 @@ module _ (tape : List ℕ) (h : Bytes tape) (first : ℕ) where
   yields r = cond (passes r) (starting Accepted (player_at first)) (starting r (player_at finished_tick))
 
   pub request_1 : Request1 tape first (started tape first)
-  unfolding started start_refusal yields stated
+  unfolding started start_refusal stated
   request_1 = go (is_plan_tape tape) (ltb first (ticks_at tape)) refl refl
     where
       taken : (is_plan_tape tape ≡ true) ↔ WriterMakes tape
