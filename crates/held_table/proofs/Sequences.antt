@@ -39,7 +39,7 @@ came_done p (withdraw k space) = from_withdraw p k space
 came_after : {h : HeldTable} → Came h → (calls : List Call) → Came (after h calls)
 unfolding after
 came_after p [] = p
-came_after p (c ∷ calls) = came_after (came_done p c) calls
+came_after {h = h} p (c ∷ calls) = came_after {h = (done h c).held} (came_done p c) calls
 
 -- the held plan is the one that planning the whole table gives, after every prefix of every sequence of calls
 pub every_prefix : {h : HeldTable} → Came h → (calls : List Call) (n : ℕ) → PlanHeld (after h (take n calls))
@@ -89,4 +89,4 @@ pub same_calls : {h h' : HeldTable} → Came h → Came h' → held_table h ≡ 
 unfolding after
 same_calls p q e [] c =
     ((same_done p q e c).0, e, ap (λ (x : Planned). x.labels) (same_plan (came_plan p) (came_plan q) e))
-same_calls p q e (d ∷ calls) c = same_calls (came_done p d) (came_done q d) (same_done p q e d).1 calls c
+same_calls {h = h} {h' = h'} p q e (d ∷ calls) c = same_calls {h = (done h d).held} {h' = (done h' d).held} (came_done p d) (came_done q d) (same_done p q e d).1 calls c

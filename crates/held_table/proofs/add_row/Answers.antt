@@ -17,9 +17,9 @@ set_row-requires-then-number-ne0 c =
     let k = c.set_row.auto in
     row_in
     (record {
-      starts_64 = k.0 ∙ p.places.rows_64.starts_64;
-      ends_64 = k.1.0 ∙ p.places.rows_64.ends_64;
-      marks_64 = k.1.1.0 ∙ p.places.rows_64.marks_64;
+      starts_64 = k.starts ∙ p.places.rows_64.starts_64;
+      ends_64 = k.ends ∙ p.places.rows_64.ends_64;
+      marks_64 = k.marks ∙ p.places.rows_64.marks_64;
     })
     p.below
 
@@ -32,7 +32,7 @@ returns-then-number-ne0 c =
     let g = c.args in
     let h = kept g.numbers g.starts.now g.ends.now g.marks.now g.labels.now in
     let n = g.numbers.rows in
-    let new = new_rows h c.requires g.row stored in
+    let new = new_rows h c.requires g.row (stored.starts_after, (stored.ends_after, stored.marks_after)) in
     rows_kept h (with_row (held_table h) g.row) g.space.now (n + 1) (omega (arith, c.requires.below)) new _ plan.ensures.space_after plan.ensures.labels_unchanged (λ z. c.if-number-ne0.true (c.number.ensures ∙ z))
     (put_back _ n _ _ stored.starts_after back.starts_after (ap (λ (r : Row). r.start) row.ensures))
     (put_back _ n _ _ stored.ends_after back.ends_after (ap (λ (r : Row). r.end) row.ensures))
@@ -48,7 +48,7 @@ returns c =
     let g = c.args in
     let h = kept g.numbers g.starts.now g.ends.now g.marks.now g.labels.now in
     let n = g.numbers.rows in
-    let new = new_rows h c.requires g.row stored in
+    let new = new_rows h c.requires g.row (stored.starts_after, (stored.ends_after, stored.marks_after)) in
     rw c.changed_to.ensures
     (rows_taken h (with_row (held_table h) g.row) g.space.now (n + 1) (omega (arith, c.requires.below)) new _ plan.ensures.space_after plan.ensures.labels_unchanged (sym c.number.ensures ∙ c.if-number-ne0.false)
-    (plan.auto.1.1.1.1.1.1.0 ∙ c.requires.places.labels_64))
+    (plan.auto.labels ∙ c.requires.places.labels_64))

@@ -23,9 +23,9 @@ pub returns : goal.returns
 returns c =
     let p = c.plan in
     let n = c.args.n in
-    let given = p.new.1.1.1.1.0 in
+    let given = p.new.labels in
     let before = c.args.labels.now in
-    let each : length given ≡ n = p.auto.1.1.1.1.0 ∙ length-take-le n before (omega (arith, c.requires.most, c.requires.labels_64)) in
+    let each : length given ≡ n = p.auto.labels ∙ length-take-le n before (omega (arith, c.requires.most, c.requires.labels_64)) in
     let first : take n (given ++ drop n before) ≡ given = take_at given (drop n before) n each in
      record {
       space_after = rw (first, ← c.round_setting-setting.ensures) p.ensures.planned;

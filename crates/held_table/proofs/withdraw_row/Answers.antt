@@ -17,9 +17,9 @@ move_down-requires c =
     let u = c.move_up.auto in
     record {
       places = record {
-        starts_64 = u.0 ∙ p.places.rows_64.starts_64;
-        ends_64 = u.1.0 ∙ p.places.rows_64.ends_64;
-        marks_64 = u.1.1.0 ∙ p.places.rows_64.marks_64;
+        starts_64 = u.starts ∙ p.places.rows_64.starts_64;
+        ends_64 = u.ends ∙ p.places.rows_64.ends_64;
+        marks_64 = u.marks ∙ p.places.rows_64.marks_64;
       };
       below = p.below;
       most = p.most;
@@ -32,20 +32,20 @@ set_row-requires c =
     let d = c.move_down in
     row_in
     (record {
-      starts_64 = d.auto.0 ∙ u.0 ∙ p.places.rows_64.starts_64;
-      ends_64 = d.auto.1.0 ∙ u.1.0 ∙ p.places.rows_64.ends_64;
-      marks_64 = d.auto.1.1.0 ∙ u.1.1.0 ∙ p.places.rows_64.marks_64;
+      starts_64 = d.auto.starts ∙ u.starts ∙ p.places.rows_64.starts_64;
+      ends_64 = d.auto.ends ∙ u.ends ∙ p.places.rows_64.ends_64;
+      marks_64 = d.auto.marks ∙ u.marks ∙ p.places.rows_64.marks_64;
     })
     (omega (arith, p.below, p.most))
 
 pub shape_of-starts-then-number-ne0 : goal.shape_of-starts-then-number-ne0
-shape_of-starts-then-number-ne0 c = c.set_row.auto.0 ∙ c.move_down.auto.0 ∙ c.move_up.auto.0
+shape_of-starts-then-number-ne0 c = c.set_row.auto.starts ∙ c.move_down.auto.starts ∙ c.move_up.auto.starts
 
 pub shape_of-ends-then-number-ne0 : goal.shape_of-ends-then-number-ne0
-shape_of-ends-then-number-ne0 c = c.set_row.auto.1.0 ∙ c.move_down.auto.1.0 ∙ c.move_up.auto.1.0
+shape_of-ends-then-number-ne0 c = c.set_row.auto.ends ∙ c.move_down.auto.ends ∙ c.move_up.auto.ends
 
 pub shape_of-marks-then-number-ne0 : goal.shape_of-marks-then-number-ne0
-shape_of-marks-then-number-ne0 c = c.set_row.auto.1.1.0 ∙ c.move_down.auto.1.1.0 ∙ c.move_up.auto.1.1.0
+shape_of-marks-then-number-ne0 c = c.set_row.auto.marks ∙ c.move_down.auto.marks ∙ c.move_up.auto.marks
 
 pub returns-then-number-ne0 : goal.returns-then-number-ne0
 returns-then-number-ne0 c =
@@ -57,7 +57,7 @@ returns-then-number-ne0 c =
     let g = c.args in
     let h = kept g.numbers g.starts.now g.ends.now g.marks.now g.labels.now in
     let n = g.numbers.rows in
-    let new = rest_rows h g.k c.requires up in
+    let new = rest_rows h g.k c.requires (up.starts_after, (up.ends_after, up.marks_after)) in
     let p = c.requires.places.rows_64 in
     rows_kept h (without_row (held_table h) g.k) g.space.now (n - 1) (omega (arith, c.requires.most)) new _ plan.ensures.space_after plan.ensures.labels_unchanged (λ z. c.if-number-ne0.true (c.number.ensures ∙ z))
     (moved_back _ g.k n _ c.requires.below (omega (arith, c.requires.most, p.starts_64)) up.starts_after down.starts_after back.starts_after (ap (λ (r : Row). r.start) row.ensures))
@@ -74,7 +74,7 @@ returns c =
     let g = c.args in
     let h = kept g.numbers g.starts.now g.ends.now g.marks.now g.labels.now in
     let n = g.numbers.rows in
-    let new = rest_rows h g.k c.requires up in
+    let new = rest_rows h g.k c.requires (up.starts_after, (up.ends_after, up.marks_after)) in
     rw c.changed_to.ensures
     (rows_taken h (without_row (held_table h) g.k) g.space.now (n - 1) (omega (arith, c.requires.most)) new _ plan.ensures.space_after plan.ensures.labels_unchanged (sym c.number.ensures ∙ c.if-number-ne0.false)
-    (plan.auto.1.1.1.1.1.1.0 ∙ c.requires.places.labels_64))
+    (plan.auto.labels ∙ c.requires.places.labels_64))
