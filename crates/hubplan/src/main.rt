@@ -7,15 +7,15 @@ use best_plan::SPACE_BYTES;
 use std::io;
 use std::io::Read;
 
-// Reads until the buffer is full or the input ends, and says how many bytes it put at the buffer's front.
-fn read_full<R: Read>(input: &mut R, buf: &mut [u8]) -> io::Result<usize>
-    ensures { IfOk result (λ n. n ≤ length buf.new) }
+// Reads until the list is full or the input ends, and returns how many bytes it read.
+fn read_full<R: Read>(from: &mut R, bytes: &mut [u8]) -> io::Result<usize>
+    ensures { IfOk result (λ n. n ≤ length bytes.new) }
 {
     let mut done = 0;
-    while done < buf.len() {
-        let n = input.read(&mut buf[done..])?;
+    while done < bytes.len() {
+        let n = from.read(&mut bytes[done..])?;
         if n == 0 {
-            break;
+            return Ok(done);
         }
         done += n;
     }

@@ -1,9 +1,9 @@
--- `hubplan::read_full` is safe and ends: what it has read lies in the buffer, and less of the buffer is left at each turn.
+-- `hubplan::read_full`: what was read lies in the list, and each turn reads a byte at least.
 use Rattle.std.proofs.Common.{length, ◌-◌, ◌≤◌}
 use Rattle.hubplan.proofs.read_full.Given as goal
 
 abbrev pub invariant-loop-done : goal.invariant-loop-done
-invariant-loop-done g l = l.done ≤ length l.buf
+invariant-loop-done g l = l.done ≤ length l.bytes
 
 abbrev pub decreases-loop-done : goal.decreases-loop-done
-decreases-loop-done g l = length l.buf - l.done
+decreases-loop-done g l = length l.initial.bytes - l.done
