@@ -312,7 +312,11 @@ fn add_random(run: bool, turns: u64, counts: &mut [u64; 6]) {
 
 fn print_line(rt: &impl Print, name: &[u8], tally: Tally) -> io::Result<()> {
     rt.write_all(name)?;
-    let Tally { read, of_form, differ } = tally;
+    let Tally {
+        read,
+        of_form,
+        differ,
+    } = tally;
     println!(rt; "{read} read, {of_form} of the form, {differ} differ")
 }
 

@@ -1,5 +1,5 @@
 -- `fleet_tape_trial::add_marks` is safe and ends: each row in turn, and no more than the list has places.
-use Rattle.std.proofs.Common.{◌-◌, ◌≤◌, rules}
+use Rattle.std.proofs.Common.{◌-◌, ◌≤◌}
 use Rattle.fleet_tape_trial.proofs.add_marks.Given as goal
 
 abbrev pub invariant-loop-i : goal.invariant-loop-i

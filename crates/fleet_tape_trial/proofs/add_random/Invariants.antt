@@ -1,5 +1,5 @@
 -- `fleet_tape_trial::add_random` is safe and ends: each turn.
-use Rattle.std.proofs.Common.{◌-◌, ◌≤◌, rules}
+use Rattle.std.proofs.Common.{◌-◌, ◌≤◌}
 use Rattle.fleet_tape_trial.proofs.add_random.Given as goal
 
 abbrev pub invariant-loop-turn : goal.invariant-loop-turn

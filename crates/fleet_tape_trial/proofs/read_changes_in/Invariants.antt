@@ -1,5 +1,5 @@
 -- `fleet_tape_trial::read_changes_in` is safe and ends: each place in turn; the tape keeps its length.
-use Rattle.std.proofs.Common.{◌≡◌, ◌-◌, ◌≤◌, length, rules}
+use Rattle.std.proofs.Common.{◌≡◌, ◌-◌, ◌≤◌, length}
 use Rattle.fleet_tape_trial.proofs.read_changes_in.Given as goal
 
 abbrev pub invariant-loop-at : goal.invariant-loop-at

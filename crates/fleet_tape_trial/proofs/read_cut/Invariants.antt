@@ -1,5 +1,5 @@
 -- `fleet_tape_trial::read_cut` is safe and ends: each length in turn.
-use Rattle.std.proofs.Common.{◌-◌, ◌≤◌, length, rules}
+use Rattle.std.proofs.Common.{◌-◌, ◌≤◌, length}
 use Rattle.fleet_tape_trial.proofs.read_cut.Given as goal
 
 abbrev pub invariant-loop-n : goal.invariant-loop-n

@@ -1,5 +1,5 @@
 -- `fleet_tape_trial::decoded::take_rows` is safe and ends: each row that the lists have a place for in turn.
-use Rattle.std.proofs.Common.{◌-◌, ◌≤◌, rules}
+use Rattle.std.proofs.Common.{◌-◌, ◌≤◌}
 use Rattle.fleet_tape_trial.proofs.decoded.take_rows.Given as goal
 
 abbrev pub invariant-loop-row : goal.invariant-loop-row

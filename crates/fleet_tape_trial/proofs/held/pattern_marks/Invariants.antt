@@ -1,5 +1,5 @@
 -- `fleet_tape_trial::held::pattern_marks` is safe and ends: each place in turn.
-use Rattle.std.proofs.Common.{◌-◌, ◌≤◌, rules}
+use Rattle.std.proofs.Common.{◌-◌, ◌≤◌}
 use Rattle.fleet_tape_trial.proofs.held.pattern_marks.Given as goal
 
 abbrev pub invariant-loop-i : goal.invariant-loop-i

@@ -1,5 +1,5 @@
 -- `fleet_tape_trial::made::encode` is safe and ends: each row in turn; the tape keeps its length.
-use Rattle.std.proofs.Common.{◌≡◌, ◌-◌, ◌≤◌, length, rules}
+use Rattle.std.proofs.Common.{◌≡◌, ◌-◌, ◌≤◌, length}
 use Rattle.fleet_tape_trial.proofs.made.encode.Given as goal
 
 abbrev pub invariant-loop-i : goal.invariant-loop-i

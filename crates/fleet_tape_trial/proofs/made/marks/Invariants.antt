@@ -1,5 +1,5 @@
 -- `fleet_tape_trial::made::marks` is safe and ends: each place in turn.
-use Rattle.std.proofs.Common.{◌-◌, ◌≤◌, rules}
+use Rattle.std.proofs.Common.{◌-◌, ◌≤◌}
 use Rattle.fleet_tape_trial.proofs.made.marks.Given as goal
 
 abbrev pub invariant-loop-i : goal.invariant-loop-i

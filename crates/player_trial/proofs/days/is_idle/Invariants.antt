@@ -1,9 +1,5 @@
 -- `player_trial::days::is_idle` is safe and ends: fewer ticks are left at each turn.
-use Rattle.std.proofs.Common.{arith}
 use Rattle.player_trial.proofs.days.is_idle.Given as goal
-
-abbrev pub invariant-loop-left : goal.invariant-loop-left
-invariant-loop-left l = Unit {0}
 
 abbrev pub decreases-loop-left : goal.decreases-loop-left
 decreases-loop-left l = l.left

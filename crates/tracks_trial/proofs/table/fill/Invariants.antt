@@ -1,11 +1,8 @@
 -- `tracks_trial::table::fill` meets its contract: the elements before `i` are filled.
-use borrow.Author.Rules.{rules}
 use Prim.Native.Nat.{◌+◌, ◌-◌, ◌≤◌}
-use mathlib.Core.Path.{◌≡◌, refl}
-use native.Mathlib.Omega.{arith}
-use lib.ListN.{length, length-set}
+use mathlib.Core.Path.{◌≡◌}
+use lib.ListN.{length}
 use Rattle.tracks_trial.specs.Drawn.{Within}
-use Rattle.tracks_trial.proofs.Laws.{within_none, within_more}
 use Rattle.tracks_trial.proofs.table.fill.Given as goal
 
 abbrev pub invariant-loop-i : goal.invariant-loop-i

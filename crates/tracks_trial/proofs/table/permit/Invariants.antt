@@ -1,6 +1,4 @@
 -- `tracks_trial::table::permit` is safe and ends: fewer rows are left at each turn.
-use borrow.Author.Rules.{rules}
-use native.Mathlib.Omega.{arith}
 use Prim.Native.Nat.{◌-◌}
 use mathlib.Core.Path.{◌≡◌}
 use lib.ListN.{length}
