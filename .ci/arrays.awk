@@ -30,6 +30,7 @@ FNR == 1 {
 }
 # Contracts and imports of proofs are no code; each stands on one line.
 /^ *(requires|ensures) / { if (!/\}$/) fail(FILENAME ":" FNR ": a contract over more than one line"); next }
+/^ *#!?\[.*\]$/ { next } # attributes
 /^ *ghost / { if (!/;$/) fail(FILENAME ":" FNR ": a ghost item over more than one line"); next }
 {
     text = $0
@@ -154,10 +155,19 @@ function read_items(m,    i, is_extern) {
         else fail(at(i) "cannot read an item that begins with " token[i])
     }
 }
-function read_use(m, i,    name) {
+function read_use(m, i,    name, j, end) {
     name = full_name(m, i)
+    j = path_end - 1
+    if (token[j] == "{") { # names in a group
+        sub(/::\{$/, "", name)
+        end = close_of[j]
+        for (j++; j < end; j += 2) {
+            if (!is_name(j) || token[j + 1] != "," && j + 1 != end) fail(at(j) "cannot read this use")
+            used[m, token[j]] = name "::" token[j]
+        }
+        path_end = end + 1
+    } else used[m, token[j]] = name
     if (token[path_end] != ";") fail(at(i) "cannot read this use")
-    used[m, token[path_end - 1]] = name
     return path_end + 1
 }
 function read_mod(m, i) {

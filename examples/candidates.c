@@ -1,7 +1,7 @@
 /* Candidates in C: before a casting, windows are tried against a hub's table. Each is tried alone, as one that must be heard. Prints each answer, and then how the call ends for a
  * table that has no plan itself.
  *
- *   rt staticlib hub_c
+ *   tools/build library
  *   gcc -std=c99 -Wall -Wextra -Werror -Iinclude examples/candidates.c target/staticlib/libhub_c.a -o target/candidates && target/candidates
  */
 #include "hubplan.h"

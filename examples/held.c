@@ -1,7 +1,7 @@
 /* A held table in C: beacons are dropped and die, and after each change the plan of all rows is there again. Prints how each change ends and the labels that are held then, and
  * at last the bytes of the plan tape.
  *
- *   rt staticlib hub_c
+ *   tools/build library
  *   gcc -std=c99 -Wall -Wextra -Werror -Iinclude examples/held.c target/staticlib/libhub_c.a -o target/held && target/held
  */
 #include "hubplan.h"

@@ -1,7 +1,7 @@
 /* Paper 01's session in C: plans the round P2 with a gap and without one and prints the labels, then the bytes of the plan tape, then what hubplan prints for the fleet tape,
  * then what a player of the plan tape tells at some ticks.
  *
- *   rt staticlib hub_c
+ *   tools/build library
  *   gcc -std=c99 -Wall -Wextra -Werror -Iinclude examples/session.c target/staticlib/libhub_c.a -o target/session && target/session
  */
 #include "hubplan.h"

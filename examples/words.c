@@ -1,7 +1,7 @@
 /* One bit per row in C: the labels of a plan as two words and back, and for each row a word of those that no receiver can hear beside it. Prints the words of paper 01's session, and
  * what its plan is where a receiver needs a gap.
  *
- *   rt staticlib hub_c
+ *   tools/build library
  *   gcc -std=c99 -Wall -Wextra -Werror -Iinclude examples/words.c target/staticlib/libhub_c.a -o target/words && target/words
  */
 #include "hubplan.h"

@@ -1,4 +1,4 @@
-/* The hub planner for C. `rt staticlib hub_c` proves and writes the library, target/staticlib/libhub_c.a (x86-64 Linux); each function below is proved to meet the
+/* The hub planner for C. `tools/build library` proves and writes the library, target/staticlib/libhub_c.a (x86-64 Linux); each function below is proved to meet the
  * promise in its comment on every input (crates/hub_c; what the words mean is defined in the crates' specs/). The functions hub_table_.. are no part of the library and not
  * proved: they stand here whole, each a call of one that is.
  *

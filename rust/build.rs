@@ -1,4 +1,4 @@
-// Links the proved library. `rt staticlib hub_c` writes it to target/staticlib/ of the repository; HUB_C_DIR names another folder.
+// Links the proved library. `tools/build library` writes it to target/staticlib/ of the repository; HUB_C_DIR names another folder.
 use std::env;
 use std::path::PathBuf;
 
@@ -11,7 +11,7 @@ fn main() {
     let archive = folder.join("libhub_c.a");
     println!("cargo:rerun-if-changed={}", archive.display());
     if !archive.exists() {
-        panic!("libhub_c.a is not there: run `rt staticlib hub_c` in the repository first");
+        panic!("libhub_c.a is not there: run `tools/build library` in the repository first");
     }
     println!("cargo:rustc-link-search=native={}", folder.display());
     println!("cargo:rustc-link-lib=static=hub_c");

@@ -33,9 +33,9 @@ OTHERWISE = {
     "tape-bytes": "tape_bytes_heard",
     "word-at": "word_at_drop",
 }
-# The names that port.py turned so, for edits and documents, which it leaves.
 # Fields that the pattern of a declaration passes over.
 FIELDS = {n: n.replace("-", "_") for n in ("each-length", "gap-most", "p1-16", "p2-16", "q1-16", "q2-16")}
+# The names that port.py turned so, for edits and documents, which it leaves.
 TURNED = """
 add-at add-kept add-low add-row add-spec add-start add-step add-turn add-wide afterHead ahead-in ahead-more alike-same allOf as-long at-after at-before at-from at-map
 at-most-one at-place beside-none best-of bit-below bit-le bit-test both-ends both-iff but-first but-last byte-at bytes-drop bytes-read bytes-rest bytesOf calls-same

@@ -12,16 +12,17 @@ mod tape_edges;
 mod tapes;
 mod wrong;
 
+use std::io;
 use trial_report::print_group;
 
-fn main() {
-    print_group(b"P1 to P12", bench::all());
-    print_group(b"edges", edges::all());
-    print_group(b"order of refusals", order::all());
-    print_group(b"plan tapes", tapes::all());
-    print_group(b"marks 0 to 5", marks::all());
-    print_group(b"beacons that send all day", all_day::all());
-    print_group(b"gaps between windows", gap::all());
-    print_group(b"plausible and wrong", wrong::all());
-    print_group(b"labels and working space after a call", kept::all());
+fn main(rt: HostRuntime) -> io::Result<()> {
+    print_group(&rt, b"P1 to P12", bench::all())?;
+    print_group(&rt, b"edges", edges::all())?;
+    print_group(&rt, b"order of refusals", order::all())?;
+    print_group(&rt, b"plan tapes", tapes::all())?;
+    print_group(&rt, b"marks 0 to 5", marks::all())?;
+    print_group(&rt, b"beacons that send all day", all_day::all())?;
+    print_group(&rt, b"gaps between windows", gap::all())?;
+    print_group(&rt, b"plausible and wrong", wrong::all())?;
+    print_group(&rt, b"labels and working space after a call", kept::all())
 }

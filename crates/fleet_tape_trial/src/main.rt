@@ -12,6 +12,7 @@ use held::{accepted, answered, refused, refused_with};
 use made::{
     Head, Stated, all_day_by, at_most, below, byte_of, front, next, put_byte, stated_by, write_tape,
 };
+use std::io;
 
 // How many tapes were read, how many of them are of the form, and how many answers differ.
 #[derive(Clone, Copy)]
@@ -309,80 +310,79 @@ fn add_random(run: bool, turns: u64, counts: &mut [u64; 6]) {
 
 // ---- what is printed
 
-fn print_line(name: &[u8], tally: Tally) {
-    io::write_all(1, name);
-    io::print_decimal(1, tally.read);
-    io::write_all(1, b" read, ");
-    io::print_decimal(1, tally.of_form);
-    io::write_all(1, b" of the form, ");
-    io::print_decimal(1, tally.differ);
-    io::write_all(1, b" differ\n");
+fn print_line(rt: &impl Print, name: &[u8], tally: Tally) -> io::Result<()> {
+    rt.write_all(name)?;
+    let Tally { read, of_form, differ } = tally;
+    println!(rt; "{read} read, {of_form} of the form, {differ} differ")
 }
 
-fn print_fixed() {
-    print_line(b"session tape: ", read_session());
-    print_line(b"its truncations: ", read_truncations());
+fn print_fixed(rt: &impl Print) -> io::Result<()> {
+    print_line(rt, b"session tape: ", read_session())?;
+    print_line(rt, b"its truncations: ", read_truncations())?;
     print_line(
+        rt,
         b"RUN without HOURS, ROUND with HOURS, a byte after STOP, nothing, 3F and 46 for a row: ",
         read_faults(),
-    );
-    print_line(b"lists of 63 and 65 places: ", read_other_places());
+    )?;
+    print_line(rt, b"lists of 63 and 65 places: ", read_other_places())
 }
 
-fn print_rows() {
+fn print_rows(rt: &impl Print) -> io::Result<()> {
     print_line(
+        rt,
         b"64 rows: ",
         both(read_ends(false, 64, 0), read_ends(true, 64, 0)),
-    );
+    )?;
     print_line(
+        rt,
         b"65 rows: ",
         both(read_ends(false, 65, 2), read_ends(true, 65, 2)),
-    );
+    )?;
     print_line(
+        rt,
         b"64 rows with start equal to end: ",
         both(read_all_day(false), read_all_day(true)),
-    );
+    )
 }
 
-fn print_random() {
+fn print_random(rt: &impl Print) -> io::Result<()> {
     print_line(
+        rt,
         b"each byte changed: ",
         both(read_changes(false), read_changes(true)),
-    );
-    print_line(b"random rounds: ", read_random(false, RANDOM));
-    print_line(b"random runs: ", read_random(true, RANDOM));
+    )?;
+    print_line(rt, b"random rounds: ", read_random(false, RANDOM))?;
+    print_line(rt, b"random runs: ", read_random(true, RANDOM))?;
     print_line(
+        rt,
         b"random rounds, a byte changed: ",
         read_random_damaged(false, RANDOM),
-    );
+    )?;
     print_line(
+        rt,
         b"random runs, a byte changed: ",
         read_random_damaged(true, RANDOM),
-    );
+    )
 }
 
-fn print_count(count: u64) {
-    io::write_all(1, b" ");
-    io::print_decimal(1, count);
+fn print_count(rt: &impl Print, count: u64) -> io::Result<()> {
+    print!(rt; " {count}")
 }
 
-fn print_marks() {
+fn print_marks(rt: &impl Print) -> io::Result<()> {
     let mut counts = [0u64; 6];
     add_random(false, RANDOM, &mut counts);
     add_random(true, RANDOM, &mut counts);
-    io::write_all(1, b"rows of mark 0 to 5 in random tapes:");
-    print_count(counts[0]);
-    print_count(counts[1]);
-    print_count(counts[2]);
-    print_count(counts[3]);
-    print_count(counts[4]);
-    print_count(counts[5]);
-    io::write_all(1, b"\n");
+    print!(rt; "rows of mark 0 to 5 in random tapes:")?;
+    for count in &counts {
+        print_count(rt, *count)?;
+    }
+    println!(rt)
 }
 
-fn main() {
-    print_fixed();
-    print_rows();
-    print_random();
-    print_marks();
+fn main(rt: HostRuntime) -> io::Result<()> {
+    print_fixed(&rt)?;
+    print_rows(&rt)?;
+    print_random(&rt)?;
+    print_marks(&rt)
 }

@@ -15,6 +15,7 @@ mod tables;
 mod tally;
 
 use sequences::Tally;
+use std::io;
 use tally::{Additions, Withdrawals};
 use trial_report::{print, print_group};
 
@@ -22,72 +23,82 @@ const SMALL: u32 = 200;
 
 const LARGE: u32 = 40;
 
-fn print_additions(a: Additions) {
+fn print_additions(rt: &impl Print, a: Additions) -> io::Result<()> {
     let refused = a.refused;
-    print(b"  additions accepted ", a.accepted);
-    print(b"    the label of an earlier row changed ", a.relabelled);
-    print(b"    the table then has 64 rows ", a.full);
-    print(b"  additions refused by 2 ", refused.rows);
-    print(b"    by 3 ", refused.space);
-    print(b"    by 6 ", refused.window);
-    print(b"    by 7 ", refused.mark);
-    print(b"    by 8 ", refused.no_plan);
-    print(b"    by 8, with another row at its place ", a.seen);
+    print(rt, b"  additions accepted ", a.accepted)?;
+    print(
+        rt,
+        b"    the label of an earlier row changed ",
+        a.relabelled,
+    )?;
+    print(rt, b"    the table then has 64 rows ", a.full)?;
+    print(rt, b"  additions refused by 2 ", refused.rows)?;
+    print(rt, b"    by 3 ", refused.space)?;
+    print(rt, b"    by 6 ", refused.window)?;
+    print(rt, b"    by 7 ", refused.mark)?;
+    print(rt, b"    by 8 ", refused.no_plan)?;
+    print(rt, b"    by 8, with another row at its place ", a.seen)
 }
 
-fn print_withdrawals(w: Withdrawals) {
+fn print_withdrawals(rt: &impl Print, w: Withdrawals) -> io::Result<()> {
     let refused = w.refused;
-    print(b"  withdrawals accepted ", w.accepted);
-    print(b"    the label of another row changed ", w.relabelled);
-    print(b"    rows moved up, and the starts changed ", w.starts);
-    print(b"    rows moved up, and the ends changed ", w.ends);
-    print(b"    rows moved up, and the marks changed ", w.marks);
-    print(b"  withdrawals refused by 3 ", refused.space);
-    print(b"    by 3, of a row not in the table ", w.both);
-    print(b"    by 15 ", refused.no_row);
-    print(b"    by 8 ", refused.no_plan);
+    print(rt, b"  withdrawals accepted ", w.accepted)?;
+    print(rt, b"    the label of another row changed ", w.relabelled)?;
+    print(rt, b"    rows moved up, and the starts changed ", w.starts)?;
+    print(rt, b"    rows moved up, and the ends changed ", w.ends)?;
+    print(rt, b"    rows moved up, and the marks changed ", w.marks)?;
+    print(rt, b"  withdrawals refused by 3 ", refused.space)?;
+    print(rt, b"    by 3, of a row not in the table ", w.both)?;
+    print(rt, b"    by 15 ", refused.no_row)?;
+    print(rt, b"    by 8 ", refused.no_plan)
 }
 
-fn print_tally(tally: Tally) {
+fn print_tally(rt: &impl Print, tally: Tally) -> io::Result<()> {
     let additions = tally.additions;
     let withdrawals = tally.withdrawals;
-    print(b"  changes ", tally.changes);
-    print_additions(additions);
-    print_withdrawals(withdrawals);
+    print(rt, b"  changes ", tally.changes)?;
+    print_additions(rt, additions)?;
+    print_withdrawals(rt, withdrawals)?;
     let lent = tally.lent;
-    print(b"  accepted with 4,608 bytes of working space ", lent.least);
-    print(b"    with 16,383 ", lent.less);
-    print(b"  differ ", tally.differ);
+    print(
+        rt,
+        b"  accepted with 4,608 bytes of working space ",
+        lent.least,
+    )?;
+    print(rt, b"    with 16,383 ", lent.less)?;
+    print(rt, b"  differ ", tally.differ)
 }
 
-fn print_sequences(words: &[u8], n: u32, brute: bool) {
-    print(words, n);
-    print_tally(sequences::all(n, brute));
+fn print_sequences(rt: &impl Print, words: &[u8], n: u32, brute: bool) -> io::Result<()> {
+    print(rt, words, n)?;
+    print_tally(rt, sequences::all(n, brute))
 }
 
-fn print_edges() {
-    print_group(b"begins, R and g", edges::begins());
-    print_group(b"windows of an added row", edges::windows());
-    print_group(b"marks of an added row", edges::marks());
-    print_group(b"64 rows", edges::most_rows());
-    print_group(b"numbers of a withdrawn row", edges::row_numbers());
-    print_group(b"bytes of working space", edges::space());
-    print_group(b"lists of other than 64 places", edges::lists());
+fn print_edges(rt: &impl Print) -> io::Result<()> {
+    print_group(rt, b"begins, R and g", edges::begins())?;
+    print_group(rt, b"windows of an added row", edges::windows())?;
+    print_group(rt, b"marks of an added row", edges::marks())?;
+    print_group(rt, b"64 rows", edges::most_rows())?;
+    print_group(rt, b"numbers of a withdrawn row", edges::row_numbers())?;
+    print_group(rt, b"bytes of working space", edges::space())?;
+    print_group(rt, b"lists of other than 64 places", edges::lists())
 }
 
-fn main() {
-    print_group(b"examples", examples::all());
-    print_edges();
-    print_group(b"order of refusals", order::all());
-    print_group(b"damaged tables", damaged::all());
+fn main(rt: HostRuntime) -> io::Result<()> {
+    print_group(&rt, b"examples", examples::all())?;
+    print_edges(&rt)?;
+    print_group(&rt, b"order of refusals", order::all())?;
+    print_group(&rt, b"damaged tables", damaged::all())?;
     print_sequences(
+        &rt,
         b"sequences, up to 7 rows, beside brute force: ",
         SMALL,
         true,
-    );
+    )?;
     print_sequences(
+        &rt,
         b"sequences, up to 64 rows, beside the planner: ",
         LARGE,
         false,
-    );
+    )
 }

@@ -8,6 +8,7 @@ use plan_tape_made::gaps::{kept, with_gap};
 use plan_tape_made::made::{Head, Lent, next, plan_by};
 use plan_tape_made::told::{has_head, is_row, take_plan};
 use refusals::{Answer, Refusal};
+use std::io;
 use window::Kind;
 
 // ---- calls of the writer
@@ -103,46 +104,46 @@ fn digit(n: u8) -> u8 {
 }
 
 // A space and a byte in hexadecimal.
-fn print_byte(byte: u8) {
-    let text = [32, digit(byte / 16), digit(byte % 16)];
-    io::write_all(1, &text);
+fn print_byte(rt: &impl Print, byte: u8) -> io::Result<()> {
+    rt.write_all(&[32, digit(byte / 16), digit(byte % 16)])
 }
 
-fn print_bytes(tape: &[u8; 400], n: usize) {
+fn print_bytes(rt: &impl Print, tape: &[u8; 400], n: usize) -> io::Result<()> {
     let mut i: usize = 0;
     while i < 400 {
         if n <= i {
-            return;
+            return Ok(());
         }
-        print_byte(tape[i]);
+        print_byte(rt, tape[i])?;
         i += 1;
     }
+    Ok(())
 }
 
-fn print_tape(tape: &[u8; 400], n: usize) {
+fn print_tape(rt: &impl Print, tape: &[u8; 400], n: usize) -> io::Result<()> {
     if n == 0 {
-        return;
+        return Ok(());
     }
-    print_bytes(tape, n);
-    io::write_all(1, b"\n");
+    print_bytes(rt, tape, n)?;
+    println!(rt)
 }
 
-fn print_number(name: &[u8], n: u64) {
-    io::write_all(1, name);
-    io::print_decimal(1, n);
+fn print_number(rt: &impl Print, name: &[u8], n: u64) -> io::Result<()> {
+    rt.write_all(name)?;
+    print!(rt; "{n}")
 }
 
-fn print_kept(untouched: bool) {
+fn print_kept(rt: &impl Print, untouched: bool) -> io::Result<()> {
     if untouched {
-        io::write_all(1, b", no other byte changed\n");
+        println!(rt; ", no other byte changed")
     } else {
-        io::write_all(1, b", other bytes changed\n");
+        println!(rt; ", other bytes changed")
     }
 }
 
-fn print_answer(refusal: Refusal, count: usize) {
-    print_number(b": refusal ", refusals::number(refusal) as u64);
-    print_number(b", count ", count as u64);
+fn print_answer(rt: &impl Print, refusal: Refusal, count: usize) -> io::Result<()> {
+    print_number(rt, b": refusal ", refusals::number(refusal) as u64)?;
+    print_number(rt, b", count ", count as u64)
 }
 
 // P2 of paper 01 with the labels of its session.
@@ -221,43 +222,43 @@ fn with_row_2(end: u16, mark: u8, label: u8) -> Lent {
 }
 
 // Makes a call that must give this refusal, and prints what it gives.
-fn run_call(must: u64, lent: Lent) {
+fn run_call(rt: &impl Print, must: u64, lent: Lent) -> io::Result<()> {
     let mut tape = filled();
     let answer = write(lent, &mut tape);
     let refusal = answer.refusal;
-    print_number(b"must give ", must);
-    print_answer(refusal, answer.count);
-    print_kept(is_untouched(&tape, answer.count));
-    print_tape(&tape, answer.count);
+    print_number(rt, b"must give ", must)?;
+    print_answer(rt, refusal, answer.count)?;
+    print_kept(rt, is_untouched(&tape, answer.count))?;
+    print_tape(rt, &tape, answer.count)
 }
 
 // The session's tape in buffers of 400, 26, 25 and no bytes, and a run.
-fn run_session() {
-    run_call(0, session());
-    run_call(0, as_round(100, 4, 4, 26));
-    run_call(10, as_round(100, 4, 4, 25));
-    run_call(10, as_round(100, 4, 4, 0));
-    run_call(0, as_run(30));
+fn run_session(rt: &impl Print) -> io::Result<()> {
+    run_call(rt, 0, session())?;
+    run_call(rt, 0, as_round(100, 4, 4, 26))?;
+    run_call(rt, 10, as_round(100, 4, 4, 25))?;
+    run_call(rt, 10, as_round(100, 4, 4, 0))?;
+    run_call(rt, 0, as_run(30))
 }
 
 // Three labels for four rows, 65 rows, R 1, hours past R, a gap of 601, an end at R, a mark 6.
-fn run_refused() {
-    run_call(1, as_round(100, 4, 3, 400));
-    run_call(2, as_round(100, 65, 65, 400));
-    run_call(4, as_round(1, 4, 4, 400));
-    run_call(5, as_run(101));
-    run_call(14, with_gap(session(), 601));
-    run_call(6, with_row_2(100, 0, 0));
-    run_call(7, with_row_2(50, 6, 0));
+fn run_refused(rt: &impl Print) -> io::Result<()> {
+    run_call(rt, 1, as_round(100, 4, 3, 400))?;
+    run_call(rt, 2, as_round(100, 65, 65, 400))?;
+    run_call(rt, 4, as_round(1, 4, 4, 400))?;
+    run_call(rt, 5, as_run(101))?;
+    run_call(rt, 14, with_gap(session(), 601))?;
+    run_call(rt, 6, with_row_2(100, 0, 0))?;
+    run_call(rt, 7, with_row_2(50, 6, 0))
 }
 
 // Labels of P2 with a 3 in them, a must row left out, an overlap on receiver 1, a row past its receiver's hours, a gap between 90–10 and 10–30.
-fn run_not_plans() {
-    run_call(9, with_row_2(50, 0, 3));
-    run_call(9, with_row_2(50, 1, 0));
-    run_call(9, with_row_2(50, 0, 1));
-    run_call(9, as_run(29));
-    run_call(9, with_gap(session(), 1));
+fn run_not_plans(rt: &impl Print) -> io::Result<()> {
+    run_call(rt, 9, with_row_2(50, 0, 3))?;
+    run_call(rt, 9, with_row_2(50, 1, 0))?;
+    run_call(rt, 9, with_row_2(50, 0, 1))?;
+    run_call(rt, 9, as_run(29))?;
+    run_call(rt, 9, with_gap(session(), 1))
 }
 
 // ---- plans by chance
@@ -499,25 +500,25 @@ fn try_many(count: u64) -> Tally {
     tally
 }
 
-fn print_count(name: &[u8], count: u64) {
-    print_number(name, count);
-    io::write_all(1, b"\n");
+fn print_count(rt: &impl Print, name: &[u8], count: u64) -> io::Result<()> {
+    print_number(rt, name, count)?;
+    println!(rt)
 }
 
-fn print_tally(tally: Tally) {
-    print_count(b"with both receivers in use ", tally.both);
-    print_count(b"with a window that wraps ", tally.wraps);
-    print_count(b"with a window that sends all day ", tally.all_day);
-    print_count(b"with rows out of start order ", tally.mixed);
-    print_count(b"with a gap above 0 ", tally.gap);
-    print_count(b"refused 9 with a gap of one tick more ", tally.close);
-    print_count(b"that differ ", tally.differs);
+fn print_tally(rt: &impl Print, tally: Tally) -> io::Result<()> {
+    print_count(rt, b"with both receivers in use ", tally.both)?;
+    print_count(rt, b"with a window that wraps ", tally.wraps)?;
+    print_count(rt, b"with a window that sends all day ", tally.all_day)?;
+    print_count(rt, b"with rows out of start order ", tally.mixed)?;
+    print_count(rt, b"with a gap above 0 ", tally.gap)?;
+    print_count(rt, b"refused 9 with a gap of one tick more ", tally.close)?;
+    print_count(rt, b"that differ ", tally.differs)
 }
 
-fn main() {
-    run_session();
-    run_refused();
-    run_not_plans();
-    print_count(b"plans ", 4000);
-    print_tally(try_many(4000));
+fn main(rt: HostRuntime) -> io::Result<()> {
+    run_session(&rt)?;
+    run_refused(&rt)?;
+    run_not_plans(&rt)?;
+    print_count(&rt, b"plans ", 4000)?;
+    print_tally(&rt, try_many(4000))
 }

@@ -43,40 +43,40 @@ module _ (tape : List ℕ) (h : Bytes tape) (first : ℕ) where
   yields r = cond (passes r) (starting Accepted (player_at first)) (starting r (player_at finished_tick))
 
   pub request_1 : Request1 tape first (started tape first)
-  unfolding started start_refusal yields stated
+  unfolding started start_refusal stated
   request_1 = go (is_plan_tape tape) (ltb first (ticks_at tape)) refl refl
     where
       taken : (is_plan_tape tape ≡ true) ↔ WriterMakes tape
       taken = taken_iff tape h
 
-      go : (p q : Bool) → is_plan_tape tape ≡ p → ltb first (ticks_at tape) ≡ q → Request1 tape first (yields (asked p Tape then asked q FirstTick))
+      go : (p q : Bool) → is_plan_tape tape ≡ p → ltb first (ticks_at tape) ≡ q → Request1 tape first (started tape first)
       go true true e f =
           let below : first < ticks_at tape = ltb-true first (ticks_at tape) f in
-          record {
+          rw (e, f) (record {
             tape_refused = (λ x. absurd (omega (arith, ap number_of x)), λ n. absurd (n (taken.0 e)));
             tick_refused = (λ x. absurd (omega (arith, ap number_of x)), λ y. absurd (omega (arith, y.1, below)));
             accepted = (λ _. (taken.0 e, below), λ _. refl);
             follows = λ _. follows tape ((plan_tape_iff tape).0 e).1 first below;
             finished = λ n. absurd (n refl);
-          }
+          })
       go true false e f =
           let past : ticks_at tape ≤ first = ltb-false first (ticks_at tape) f in
-          record {
+          rw (e, f) (record {
             tape_refused = (λ x. absurd (omega (arith, ap number_of x)), λ n. absurd (n (taken.0 e)));
             tick_refused = (λ _. (taken.0 e, past), λ _. refl);
             accepted = (λ x. absurd (omega (arith, ap number_of x)), λ y. absurd (omega (arith, y.1, past)));
             follows = λ x. absurd (omega (arith, ap number_of x));
             finished = λ _. finished_rests;
-          }
+          })
       go false q e f =
           let none : WriterMakes tape → ⊥ = λ m. false≢true (sym e ∙ taken.1 m) in
-          record {
+          rw e (record {
             tape_refused = (λ _. none, λ _. refl);
             tick_refused = (λ x. absurd (omega (arith, ap number_of x)), λ y. absurd (none y.0));
             accepted = (λ x. absurd (omega (arith, ap number_of x)), λ y. absurd (none y.0));
             follows = λ x. absurd (omega (arith, ap number_of x));
             finished = λ _. finished_rests;
-          }
+          })
 
 -- what a start promises, from what it computes
 pub start_said : (tape : List ℕ) → Bytes tape → (first : ℕ) {out : Started} → out ≡ started tape first → (out ≡ started tape first) × Request1 tape first out

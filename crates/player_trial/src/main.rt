@@ -17,6 +17,7 @@ mod verdicts;
 use changed::Changed;
 use made::Which;
 use played::Tally;
+use std::io;
 use trial_report::{print, print_group};
 
 const SMALL: u32 = 2000;
@@ -25,76 +26,92 @@ const WITH_GAP: u32 = 1000;
 
 const LARGER: u32 = 200;
 
-fn print_met(tally: Tally) {
-    print(b"  a receiver idle ", tally.idle);
-    print(b"  both listening ", tally.both);
+fn print_met(rt: &impl Print, tally: Tally) -> io::Result<()> {
+    print(rt, b"  a receiver idle ", tally.idle)?;
+    print(rt, b"  both listening ", tally.both)?;
     print(
+        rt,
         b"  before the end of the day in a window over it ",
         tally.over,
-    );
-    print(b"  a window ends where the next begins ", tally.touching);
-    print(b"  in a window that sends all day ", tally.all_day);
-    print(b"  at the end of that window ", tally.own_end);
-    print(b"  finished ", tally.finished);
-}
-
-fn print_tally(tally: Tally) {
-    print(b"  starts ", tally.starts);
-    print(b"  steps ", tally.steps);
-    print_met(tally);
-    print(b"  differ ", tally.differ);
-}
-
-fn print_played() {
-    print(b"the session's tape, two days from each first tick: ", 1);
-    print_tally(session::all());
+    )?;
     print(
+        rt,
+        b"  a window ends where the next begins ",
+        tally.touching,
+    )?;
+    print(rt, b"  in a window that sends all day ", tally.all_day)?;
+    print(rt, b"  at the end of that window ", tally.own_end)?;
+    print(rt, b"  finished ", tally.finished)
+}
+
+fn print_tally(rt: &impl Print, tally: Tally) -> io::Result<()> {
+    print(rt, b"  starts ", tally.starts)?;
+    print(rt, b"  steps ", tally.steps)?;
+    print_met(rt, tally)?;
+    print(rt, b"  differ ", tally.differ)
+}
+
+fn print_played(rt: &impl Print) -> io::Result<()> {
+    print(
+        rt,
+        b"the session's tape, two days from each first tick: ",
+        1,
+    )?;
+    print_tally(rt, session::all())?;
+    print(
+        rt,
         b"tapes with windows that send all day, for two days: ",
         all_day::TAPES,
-    );
-    print_tally(all_day::all());
-    print(b"tables of 2 to 12 ticks, from each first tick: ", SMALL);
-    print_tally(made::tables(Which::Small, SMALL));
+    )?;
+    print_tally(rt, all_day::all())?;
     print(
+        rt,
+        b"tables of 2 to 12 ticks, from each first tick: ",
+        SMALL,
+    )?;
+    print_tally(rt, made::tables(Which::Small, SMALL))?;
+    print(
+        rt,
         b"tables of 2 to 12 ticks with a gap, from each first tick: ",
         WITH_GAP,
-    );
-    print_tally(made::tables(Which::WithGap, WITH_GAP));
+    )?;
+    print_tally(rt, made::tables(Which::WithGap, WITH_GAP))
 }
 
-fn print_larger() {
+fn print_larger(rt: &impl Print) -> io::Result<()> {
     print(
+        rt,
         b"tables of up to 1,000 ticks, from three first ticks: ",
         LARGER,
-    );
-    print_tally(made::tables(Which::Larger, LARGER));
-    print(b"tables of 43,200 ticks, from three first ticks: ", 2);
-    print_tally(made::longest_tables());
+    )?;
+    print_tally(rt, made::tables(Which::Larger, LARGER))?;
+    print(rt, b"tables of 43,200 ticks, from three first ticks: ", 2)?;
+    print_tally(rt, made::longest_tables())
 }
 
-fn print_broken() {
+fn print_broken(rt: &impl Print) -> io::Result<()> {
     let groups = broken::all();
     let starts = groups.starts;
     let judged = groups.judged;
     let finished = groups.finished;
-    print_group(b"broken tapes and tapes just not broken", starts);
-    print_group(b"the trial's own judge on these tapes", judged);
-    print_group(b"steps after a refused start", finished);
+    print_group(rt, b"broken tapes and tapes just not broken", starts)?;
+    print_group(rt, b"the trial's own judge on these tapes", judged)?;
+    print_group(rt, b"steps after a refused start", finished)
 }
 
-fn print_changed(words: &[u8], changed: Changed) {
+fn print_changed(rt: &impl Print, words: &[u8], changed: Changed) -> io::Result<()> {
     let tapes = changed.tapes;
     let steps = changed.steps;
-    print_group(words, tapes);
-    print(b"  that a writer can make ", changed.made);
-    print(b"  steps on these ", steps.steps);
-    print(b"  steps that differ ", steps.differ);
+    print_group(rt, words, tapes)?;
+    print(rt, b"  that a writer can make ", changed.made)?;
+    print(rt, b"  steps on these ", steps.steps)?;
+    print(rt, b"  steps that differ ", steps.differ)
 }
 
-fn main() {
-    print_played();
-    print_larger();
-    print_broken();
-    print_changed(b"a byte of a round changed", changed::in_round());
-    print_changed(b"a byte of a run changed", changed::in_run());
+fn main(rt: HostRuntime) -> io::Result<()> {
+    print_played(&rt)?;
+    print_larger(&rt)?;
+    print_broken(&rt)?;
+    print_changed(&rt, b"a byte of a round changed", changed::in_round())?;
+    print_changed(&rt, b"a byte of a run changed", changed::in_run())
 }

@@ -3,8 +3,9 @@
 
 mod replies;
 
+use std::io;
 use trial_report::print_group;
 
-fn main() {
-    print_group(b"replies to fleet tapes", replies::all());
+fn main(rt: HostRuntime) -> io::Result<()> {
+    print_group(&rt, b"replies to fleet tapes", replies::all())
 }

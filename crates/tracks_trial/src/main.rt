@@ -7,6 +7,7 @@ mod rows;
 mod table;
 
 use brute_force::plans::changed;
+use std::io;
 use trial_report::{more, print};
 
 const TABLES: u32 = 5000;
@@ -64,16 +65,17 @@ fn compare() -> Tally {
     tally
 }
 
-fn main() {
+fn main(rt: HostRuntime) -> io::Result<()> {
     let tally = compare();
-    print(b"tables ", TABLES);
-    print(b"no assignment ", tally.none);
-    print(b"two rows that cross tick 0 heard ", tally.crossing);
-    print(b"a row of the whole circle heard ", tally.whole);
-    print(b"several best assignments ", tally.tied);
+    print(&rt, b"tables ", TABLES)?;
+    print(&rt, b"no assignment ", tally.none)?;
+    print(&rt, b"two rows that cross tick 0 heard ", tally.crossing)?;
+    print(&rt, b"a row of the whole circle heard ", tally.whole)?;
+    print(&rt, b"several best assignments ", tally.tied)?;
     print(
+        &rt,
         b"best assignment changed by the permissions ",
         tally.changed,
-    );
-    print(b"differ ", tally.differ);
+    )?;
+    print(&rt, b"differ ", tally.differ)
 }

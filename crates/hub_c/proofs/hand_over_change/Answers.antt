@@ -1,5 +1,4 @@
 -- `hub_c::hand_over_change` meets its contract.
-use borrow.Author.Rules.{rules}
 use Rattle.hub_c.proofs.hand_over_change.Goals as goal
 
 pub returns : goal.returns

@@ -1,5 +1,4 @@
 -- `hub_c::hand_over_receiver` meets its contract, case for case.
-use borrow.Author.Rules.{rules}
 use Rattle.hub_c.proofs.hand_over_receiver.Goals as goal
 
 pub returns-in-Idle : goal.returns-in-Idle

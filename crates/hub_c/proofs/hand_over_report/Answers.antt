@@ -1,6 +1,5 @@
 -- `hub_c::hand_over_report` meets its contract: refusal and kind by number, the hours one by one.
 use mathlib.Core.Path.{refl}
-use borrow.Author.Rules.{rules}
 use Rattle.hub_c.proofs.hand_over_report.Goals as goal
 
 pub returns : goal.returns

@@ -1,5 +1,4 @@
 -- `hub_c::hub_held_begin` meets its contract: the begin, by its numbers.
-use borrow.Author.Rules.{rules}
 use Rattle.hub_c.proofs.hub_held_begin.Goals as goal
 
 pub returns : goal.returns

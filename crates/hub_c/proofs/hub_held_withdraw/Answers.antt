@@ -1,7 +1,6 @@
 -- `hub_c::hub_held_withdraw` meets its contract: the withdrawal, by its numbers.
 use mathlib.Core.Path.{ap}
 use Rattle.hub_c.specs.Handed.{handed_held}
-use borrow.Author.Rules.{rules}
 use Rattle.hub_c.proofs.hub_held_withdraw.Goals as goal
 
 pub returns : goal.returns

@@ -1,5 +1,4 @@
 -- `hub_c::hub_player_start` meets its contract: the start, by its numbers.
-use borrow.Author.Rules.{rules}
 use Rattle.hub_c.proofs.hub_player_start.Goals as goal
 
 pub returns : goal.returns

@@ -1,5 +1,4 @@
 -- `hub_c::hub_player_step` meets its contract: the step, by its numbers.
-use borrow.Author.Rules.{rules}
 use Rattle.hub_c.proofs.hub_player_step.Goals as goal
 
 pub returns : goal.returns

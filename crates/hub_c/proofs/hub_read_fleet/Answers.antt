@@ -1,6 +1,5 @@
 -- `hub_c::hub_read_fleet` meets its contract: the reader's report is handed over, and the lists are the reader's.
 use mathlib.Core.Path.{ap}
-use borrow.Author.Rules.{rules}
 use Rattle.hub_c.specs.Handed.{handed_read}
 use Rattle.hub_c.proofs.hub_read_fleet.Goals as goal
 

@@ -1,5 +1,4 @@
 -- `hub_c::hub_try_candidates_round` meets its contract.
-use borrow.Author.Rules.{rules}
 use Rattle.hub_c.proofs.hub_try_candidates_round.Goals as goal
 
 pub returns : goal.returns

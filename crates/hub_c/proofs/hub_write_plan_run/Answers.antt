@@ -1,5 +1,4 @@
 -- `hub_c::hub_write_plan_run` meets its contract.
-use borrow.Author.Rules.{rules}
 use Rattle.hub_c.proofs.hub_write_plan_run.Goals as goal
 
 pub returns : goal.returns

@@ -1,6 +1,5 @@
 -- `hub_c::plan` meets its contract: the planner's answer is handed over, labels and working space are the planner's.
 use mathlib.Core.Path.{ap}
-use borrow.Author.Rules.{rules}
 use Rattle.hub_c.specs.Handed.{handed_plan}
 use Rattle.hub_c.proofs.plan.Goals as goal
 

@@ -1,6 +1,5 @@
 -- `hub_c::try_candidates` meets its contract: the report is handed over by its numbers; answers and working space are those of `candidates::try_each`.
 use mathlib.Core.Path.{ap}
-use borrow.Author.Rules.{rules}
 use Rattle.hub_c.specs.Handed.{handed_tried}
 use Rattle.hub_c.proofs.try_candidates.Goals as goal
 

@@ -1,6 +1,5 @@
 -- `hub_c::write_plan` meets its contract: the writer's answer is handed over, and the buffer is the writer's.
 use mathlib.Core.Path.{ap}
-use borrow.Author.Rules.{rules}
 use Rattle.hub_c.specs.Handed.{handed_tape}
 use Rattle.hub_c.proofs.write_plan.Goals as goal
 

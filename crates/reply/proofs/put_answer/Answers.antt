@@ -6,7 +6,6 @@ use Rattle.table.specs.Planned.{answering}
 use Rattle.basics.proofs.Puts.{put_text, put_then, put_length}
 use Rattle.reply.proofs.Putting.{word_length}
 use Rattle.reply.proofs.Replying.{printed_heard, printed_refused}
-use borrow.Author.Rules.{rules}
 use Rattle.reply.proofs.put_answer.Goals as goal
 
 pub put_refused-requires : goal.put_refused-requires

@@ -5,7 +5,6 @@ use native.Mathlib.Omega.{arith}
 use lib.ListN.{length-set}
 use Rattle.basics.proofs.Puts.{put_one, put_two, put_text}
 use Rattle.reply.proofs.Putting.{one_digit, two_digits}
-use borrow.Author.Rules.{rules}
 use Rattle.reply.proofs.put_number.Goals as goal
 
 pub returns-then-n-lt10 : goal.returns-then-n-lt10

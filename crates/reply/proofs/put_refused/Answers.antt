@@ -4,7 +4,6 @@ use native.Mathlib.Omega.{arith}
 use Rattle.reply.specs.Lines.{refused_word, word_line}
 use Rattle.basics.proofs.Puts.{put_text}
 use Rattle.refusals.proofs.Refusals.{number_below}
-use borrow.Author.Rules.{rules}
 use Rattle.reply.proofs.put_refused.Goals as goal
 
 pub put_word-requires : goal.put_word-requires

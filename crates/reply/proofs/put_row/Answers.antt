@@ -5,7 +5,6 @@ use lib.ListN.{length-set}
 use Rattle.reply.specs.Lines.{decimal, row_line}
 use Rattle.basics.proofs.Puts.{put_one, put_then, put_text, put_length}
 use Rattle.reply.proofs.Putting.{number_ends}
-use borrow.Author.Rules.{rules}
 use Rattle.reply.proofs.put_row.Goals as goal
 
 pub put_number-between-requires : goal.put_number-between-requires

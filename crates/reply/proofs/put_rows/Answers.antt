@@ -1,10 +1,8 @@
 -- `reply::put_rows` meets its contract. The loop's invariant: the lines of the first rows are put, and there is room for the others. The measure is how many rows are left.
-use Prim.Native.Nat.{◌+◌, ◌-◌, ◌*◌, ◌≤◌}
 use mathlib.Core.Path.{ap}
 use native.Mathlib.Omega.{arith}
-use lib.ListN.{length, take}
 use lib.Seq.{take_all}
-use Rattle.basics.specs.Lists.{at, Put}
+use Rattle.basics.specs.Lists.{at}
 use Rattle.reply.specs.Lines.{row_lines}
 use Rattle.basics.proofs.Puts.{put_none, put_text, put_length}
 use Rattle.reply.proofs.Putting.{put_row_more, row_length}

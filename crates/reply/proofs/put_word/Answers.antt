@@ -4,7 +4,6 @@ use lib.ListN.{length-set}
 use Rattle.reply.specs.Lines.{word_line}
 use Rattle.basics.proofs.Puts.{put_one, put_then, put_length}
 use Rattle.reply.proofs.Putting.{number_ends}
-use borrow.Author.Rules.{rules}
 use Rattle.reply.proofs.put_word.Goals as goal
 
 pub put_number-end-requires : goal.put_number-end-requires

@@ -4,14 +4,13 @@ use native.Mathlib.Omega.{arith}
 use Rattle.refusals.specs.declared.Refusal.TheVariants.{Form}
 use Rattle.reply.specs.Replied.{places}
 use Rattle.reply.proofs.Replying.{refusal_replied, out_short, tape_long, tape_read, replied_within}
-use borrow.Author.Rules.{rules}
 use Rattle.reply.proofs.reply.Goals as goal
 
 pub returns-then-out-lt-OUT_BYTES : goal.returns-then-out-lt-OUT_BYTES
 returns-then-out-lt-OUT_BYTES c =
     let g = c.args in
     let e = out_short g.tape.now g.out.now g.space.now c.if-out-lt-OUT_BYTES.true in
-     record {
+    record {
       replied = e;
       within = replied_within g.tape.now g.out.now g.space.now e;
     }
@@ -21,7 +20,7 @@ returns-then-tape-gt-TAPE_BYTES c =
     let g = c.args in
     let e = refusal_replied Form g.space.now (λ z. omega arith) (λ z. omega arith) c.if-out-lt-OUT_BYTES.false c.put_refused.ensures
     ∙ tape_long g.tape.now g.out.now g.space.now c.if-out-lt-OUT_BYTES.false c.if-tape-gt-TAPE_BYTES.true in
-     record {
+    record {
       replied = e;
       within = replied_within g.tape.now g.out.now g.space.now e;
     }
@@ -34,7 +33,7 @@ pub returns : goal.returns
 returns c =
     let g = c.args in
     let e = c.reply_lent.ensures ∙ tape_read g.tape.now g.out.now g.space.now c.if-out-lt-OUT_BYTES.false c.if-tape-gt-TAPE_BYTES.false in
-     record {
+    record {
       replied = e;
       within = replied_within g.tape.now g.out.now g.space.now e;
     }

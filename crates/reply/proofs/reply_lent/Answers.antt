@@ -4,7 +4,6 @@ use native.Mathlib.Omega.{arith}
 use lib.Seq.{length-take-le}
 use Rattle.table.specs.Tables.{setting_of}
 use Rattle.reply.proofs.Replying.{rows_fit, reader_refused, reader_accepted}
-use borrow.Author.Rules.{rules}
 use Rattle.reply.proofs.reply_lent.Goals as goal
 
 pub put_refused-requires : goal.put_refused-requires
@@ -15,22 +14,22 @@ returns-then-number-ne0 c =
     reader_refused c.args.tape.now c.requires c.read_fleet-report.ensures.read c.args.space.now (λ z. c.if-number-ne0.true (c.number.ensures ∙ z)) c.put_refused.ensures
 
 pub slice_bounds-reply_table-end : goal.slice_bounds-reply_table-end
-slice_bounds-reply_table-end c = rows_fit c.args.tape.now c.requires c.read_fleet-report.ensures.read c.read_fleet-report.auto.1.0 c.requires.starts_are
+slice_bounds-reply_table-end c = rows_fit c.args.tape.now c.requires c.read_fleet-report.ensures.read c.read_fleet-report.auto.starts c.requires.starts_are
 
 pub slice_bounds-reply_table-end-2 : goal.slice_bounds-reply_table-end-2
-slice_bounds-reply_table-end-2 c = sym (length-take-le _ _ (rows_fit c.args.tape.now c.requires c.read_fleet-report.ensures.read c.read_fleet-report.auto.1.0 c.requires.starts_are))
+slice_bounds-reply_table-end-2 c = sym (length-take-le _ _ (rows_fit c.args.tape.now c.requires c.read_fleet-report.ensures.read c.read_fleet-report.auto.starts c.requires.starts_are))
 
 pub slice_bounds-reply_table-end-3 : goal.slice_bounds-reply_table-end-3
-slice_bounds-reply_table-end-3 c = rows_fit c.args.tape.now c.requires c.read_fleet-report.ensures.read c.read_fleet-report.auto.1.1.0 c.requires.ends_are
+slice_bounds-reply_table-end-3 c = rows_fit c.args.tape.now c.requires c.read_fleet-report.ensures.read c.read_fleet-report.auto.ends c.requires.ends_are
 
 pub slice_bounds-reply_table-end-4 : goal.slice_bounds-reply_table-end-4
-slice_bounds-reply_table-end-4 c = sym (length-take-le _ _ (rows_fit c.args.tape.now c.requires c.read_fleet-report.ensures.read c.read_fleet-report.auto.1.1.0 c.requires.ends_are))
+slice_bounds-reply_table-end-4 c = sym (length-take-le _ _ (rows_fit c.args.tape.now c.requires c.read_fleet-report.ensures.read c.read_fleet-report.auto.ends c.requires.ends_are))
 
 pub slice_bounds-reply_table-end-5 : goal.slice_bounds-reply_table-end-5
-slice_bounds-reply_table-end-5 c = rows_fit c.args.tape.now c.requires c.read_fleet-report.ensures.read c.read_fleet-report.auto.1.1.1.0 c.requires.marks_are
+slice_bounds-reply_table-end-5 c = rows_fit c.args.tape.now c.requires c.read_fleet-report.ensures.read c.read_fleet-report.auto.marks c.requires.marks_are
 
 pub slice_bounds-reply_table-end-6 : goal.slice_bounds-reply_table-end-6
-slice_bounds-reply_table-end-6 c = sym (length-take-le _ _ (rows_fit c.args.tape.now c.requires c.read_fleet-report.ensures.read c.read_fleet-report.auto.1.1.1.0 c.requires.marks_are))
+slice_bounds-reply_table-end-6 c = sym (length-take-le _ _ (rows_fit c.args.tape.now c.requires c.read_fleet-report.ensures.read c.read_fleet-report.auto.marks c.requires.marks_are))
 
 pub slice_bounds-reply_table-end-7 : goal.slice_bounds-reply_table-end-7
 slice_bounds-reply_table-end-7 c = rows_fit c.args.tape.now c.requires c.read_fleet-report.ensures.read refl c.requires.labels_are

@@ -9,7 +9,6 @@ use Rattle.reply.specs.Lines.{printed}
 use Rattle.reply.specs.Room.{Answerable}
 use Rattle.basics.proofs.Puts.{put_text}
 use Rattle.reply.proofs.Replying.{planned_answerable, answer_replied}
-use borrow.Author.Rules.{rules}
 use Rattle.reply.proofs.reply_table.Goals as goal
 
 pub put_answer-requires : goal.put_answer-requires

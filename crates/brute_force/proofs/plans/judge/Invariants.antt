@@ -1,8 +1,5 @@
 -- `brute_force::plans::judge` is safe and ends: fewer rows are left at each turn.
 use Rattle.brute_force.proofs.plans.judge.Given as goal
 
-abbrev pub invariant-loop-row : goal.invariant-loop-row
-invariant-loop-row l = Unit {0}
-
 abbrev pub decreases-loop-row : goal.decreases-loop-row
 decreases-loop-row l = l.row

@@ -1,5 +1,4 @@
 -- `hub_c::words::hub_clash_words_round` meets its contract.
-use borrow.Author.Rules.{rules}
 use Rattle.hub_c.proofs.words.hub_clash_words_round.Goals as goal
 
 pub returns : goal.returns

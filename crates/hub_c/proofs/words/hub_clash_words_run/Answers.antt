@@ -1,5 +1,4 @@
 -- `hub_c::words::hub_clash_words_run` meets its contract.
-use borrow.Author.Rules.{rules}
 use Rattle.hub_c.proofs.words.hub_clash_words_run.Goals as goal
 
 pub returns : goal.returns

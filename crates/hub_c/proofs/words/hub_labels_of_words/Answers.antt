@@ -1,7 +1,6 @@
 -- `hub_c::words::hub_labels_of_words` meets its contract: the answer is handed over by its numbers; the labels are those of `bit_words::labels_of`.
 use mathlib.Core.Path.{ap}
 use Rattle.hub_c.specs.Handed.{handed_labels}
-use borrow.Author.Rules.{rules}
 use Rattle.hub_c.proofs.words.hub_labels_of_words.Goals as goal
 
 pub returns : goal.returns

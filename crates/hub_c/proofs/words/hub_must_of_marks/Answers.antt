@@ -1,5 +1,4 @@
 -- `hub_c::words::hub_must_of_marks` meets its contract: the refusal's number stands for the refusal.
-use borrow.Author.Rules.{rules}
 use Rattle.hub_c.proofs.words.hub_must_of_marks.Goals as goal
 
 pub returns : goal.returns

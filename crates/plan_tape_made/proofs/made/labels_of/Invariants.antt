@@ -1,5 +1,5 @@
 -- `plan_tape_made::made::labels_of` is safe and ends, labelling row by row.
-use Rattle.std.proofs.Common.{◌≡◌, ◌-◌, length, rules}
+use Rattle.std.proofs.Common.{◌≡◌, ◌-◌, length}
 use Rattle.plan_tape_made.proofs.made.labels_of.Given as goal
 
 abbrev pub invariant-loop-i : goal.invariant-loop-i

@@ -1,9 +1,0 @@
--- `distance_trial::counted::steps` is safe and ends: fewer steps are left at each turn.
-use Rattle.std.proofs.Common.{◌-◌}
-use Rattle.distance_trial.proofs.counted.steps.Given as goal
-
-abbrev pub invariant-loop-steps : goal.invariant-loop-steps
-invariant-loop-steps l = Unit {0}
-
-abbrev pub decreases-loop-steps : goal.decreases-loop-steps
-decreases-loop-steps l = l.ticks - l.steps
