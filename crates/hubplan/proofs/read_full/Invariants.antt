@@ -1,0 +1,9 @@
+-- `hubplan::read_full`: what was read lies in the list, and each turn reads a byte at least.
+use Rattle.std.proofs.Common.{length, ◌-◌, ◌≤◌}
+use Rattle.hubplan.proofs.read_full.Given as goal
+
+abbrev pub invariant-loop-done : goal.invariant-loop-done
+invariant-loop-done g l = l.done ≤ length l.bytes
+
+abbrev pub decreases-loop-done : goal.decreases-loop-done
+decreases-loop-done g l = length l.initial.bytes - l.done
