@@ -1,9 +1,0 @@
--- `held_trial::sequences::with_sequence` is safe and ends: fewer changes are left at each turn.
-use Rattle.std.proofs.Common.{◌-◌, rules}
-use Rattle.held_trial.proofs.sequences.with_sequence.Given as goal
-
-abbrev pub invariant-loop-turn : goal.invariant-loop-turn
-invariant-loop-turn l = Unit {0}
-
-abbrev pub decreases-loop-turn : goal.decreases-loop-turn
-decreases-loop-turn l = 320 - l.turn

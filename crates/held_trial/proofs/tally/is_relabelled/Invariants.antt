@@ -1,9 +1,0 @@
--- `held_trial::tally::is_relabelled` is safe and ends: fewer places are left at each turn.
-use Rattle.std.proofs.Common.{◌-◌, rules}
-use Rattle.held_trial.proofs.tally.is_relabelled.Given as goal
-
-abbrev pub invariant-loop-i : goal.invariant-loop-i
-invariant-loop-i l = Unit {0}
-
-abbrev pub decreases-loop-i : goal.decreases-loop-i
-decreases-loop-i l = 66 - l.i
