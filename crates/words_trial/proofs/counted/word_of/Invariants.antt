@@ -1,9 +1,5 @@
 -- `words_trial::counted::word_of` is safe and ends: fewer turns are left after each.
-use Rattle.std.proofs.Common.{rules}
 use Rattle.words_trial.proofs.counted.word_of.Given as goal
-
-abbrev pub invariant-loop-j : goal.invariant-loop-j
-invariant-loop-j l = Unit {0}
 
 abbrev pub decreases-loop-j : goal.decreases-loop-j
 decreases-loop-j l = l.j

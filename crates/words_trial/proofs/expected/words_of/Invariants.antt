@@ -1,5 +1,5 @@
 -- `words_trial::expected::words_of` is safe and ends: fewer turns are left after each.
-use Rattle.std.proofs.Common.{◌≤◌, length, rules}
+use Rattle.std.proofs.Common.{◌≤◌, length}
 use Rattle.words_trial.proofs.expected.words_of.Given as goal
 
 abbrev pub invariant-loop-i : goal.invariant-loop-i

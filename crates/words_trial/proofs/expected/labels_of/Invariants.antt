@@ -1,9 +1,0 @@
--- `words_trial::expected::labels_of` is safe and ends: fewer turns are left after each.
-use Rattle.std.proofs.Common.{◌-◌, rules}
-use Rattle.words_trial.proofs.expected.labels_of.Given as goal
-
-abbrev pub invariant-loop-i : goal.invariant-loop-i
-invariant-loop-i l = Unit {0}
-
-abbrev pub decreases-loop-i : goal.decreases-loop-i
-decreases-loop-i l = 64 - l.i

@@ -1,9 +1,0 @@
--- `words_trial::must::marks_from` is safe and ends: fewer turns are left after each.
-use Rattle.std.proofs.Common.{◌-◌, rules}
-use Rattle.words_trial.proofs.must.marks_from.Given as goal
-
-abbrev pub invariant-loop-i : goal.invariant-loop-i
-invariant-loop-i l = Unit {0}
-
-abbrev pub decreases-loop-i : goal.decreases-loop-i
-decreases-loop-i l = 66 - l.i

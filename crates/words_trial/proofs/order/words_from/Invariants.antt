@@ -1,9 +1,0 @@
--- `words_trial::order::words_from` is safe and ends: fewer turns are left after each.
-use Rattle.std.proofs.Common.{◌-◌, rules}
-use Rattle.words_trial.proofs.order.words_from.Given as goal
-
-abbrev pub invariant-loop-i : goal.invariant-loop-i
-invariant-loop-i l = Unit {0}
-
-abbrev pub decreases-loop-i : goal.decreases-loop-i
-decreases-loop-i l = 67 - l.i
