@@ -1,5 +1,5 @@
 -- Worked examples of held tables (request 5 of paper 02): calls, and for each the answer and what is then held, every place of every list. And the edges: each refusal, two faults at once, and tables that no call leaves.
-use Prim.Native.Nat.{ℕ, ◌+◌, ◌-◌}
+use Prim.Native.Nat.{ℕ, ◌-◌}
 use mathlib.Core.Path.{◌≡◌, refl}
 use mathlib.Core.List.{List, [], ◌∷◌, ◌++◌}
 use lib.ListN.{length, replicate}

@@ -15,7 +15,7 @@ use Rattle.window.specs.Hours.{no_hours}
 use Rattle.refusals.specs.declared.Refusal.{Refusal}
 use Rattle.refusals.specs.declared.Refusal.TheVariants.{Space, NoPlan, NoRow}
 use Rattle.refusals.specs.declared.Answer.{Answer}
-use Rattle.refusals.specs.Refusals.{number_of, asked, passes, ◌then◌}
+use Rattle.refusals.specs.Refusals.{number_of, asked, passes}
 use Rattle.refusals.proofs.Refusals.{Passed, then_either}
 use Rattle.table.specs.Tables.{Table, rows, setting_of, is_plan}
 use Rattle.table.specs.Checks.{ticks_refusal, hours_refusal, gap_refusal, setting_refusal, table_looked}

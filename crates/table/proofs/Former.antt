@@ -1,18 +1,14 @@
 -- Tables that do not use what a request of paper 02 brought keep their plans, and so a call gives what it gave.
-use Prim.Native.Nat.{ℕ, zero, suc, ◌≤◌}
-use mathlib.Core.Path.{◌≡◌, refl, sym, ◌∙◌}
+use Prim.Native.Nat.{ℕ}
+use mathlib.Core.Path.{◌≡◌, refl}
 use mathlib.Core.Logic.Iff
-use mathlib.Core.Logic.{◌≢◌, ◌↔◌, inl}
+use mathlib.Core.Logic.{◌≢◌, ◌↔◌}
 use mathlib.Core.Bool.{Bool, true, false, ◌&&◌}
 use mathlib.Core.List.{List}
-use mathlib.Core.Option.{Option, none, some}
 use native.Mathlib.Omega.{arith}
-use borrow.Author.Tests.{le-leb}
-use Rattle.labels.proofs.Best.{best_iff, assignment_iff}
+use Rattle.labels.proofs.Best.{assignment_iff}
 use Rattle.window.specs.declared.Kind.{Kind}
 use Rattle.window.specs.declared.Kind.TheVariants.{Round, Run}
-use Rattle.marks.specs.Marks.{max_mark}
-use Rattle.marks.proofs.Allowing.{must_least, either_least}
 use Rattle.window.specs.declared.Row.{Row}
 use Rattle.window.specs.Windows.{Window}
 use Rattle.window.proofs.AllDay.{window_kept_3, overlap_kept_3}
@@ -21,36 +17,12 @@ use Rattle.refusals.specs.declared.Refusal.TheVariants.{Accepted, Hours}
 use Rattle.refusals.specs.Refusals.{asked, ◌then◌}
 use Rattle.refusals.proofs.Refusals.{Passed}
 use Rattle.table.specs.declared.Setting.{Setting}
-use Rattle.table.specs.Tables.{Table, rows, row_at, Open, Allowed, Plan, Valid}
+use Rattle.table.specs.Tables.{Table, rows, row_at, Plan, Valid}
 use Rattle.table.specs.Checks.{is_hours, hours_refusal, gap_refusal, setting_refusal, row_refusal}
-use Rattle.table.specs.Planned.{Planned, checked, best_plan, planned}
-use Rattle.table.specs.Former.{PlannedBy, ClashBefore4, PlanBefore4, setting_refusal_before4, NoGap, ClashBefore3, PlanBefore3, row_refusal_before3, NoneAllDay, OpenBefore2, AllowedBefore2, PlanBefore2, row_refusal_before2, OnlyMarks01}
-use Rattle.table.proofs.Checked.{checked_valid}
-use Rattle.table.proofs.Rivals.{best_plan_iff, no_plan, only_best, only_none}
-
--- ---- where the plans are those of another definition, a call gives what that definition makes right, and nothing else does
-
-module _ (t : Table) (before : List ℕ) (space : ℕ) (p : Passed (checked t before space)) (C : List ℕ → Type 0) (plans : (l : List ℕ) → Plan t l ↔ C l) where
-  pub planned_by : PlannedBy C before (planned t before space)
-  planned_by =
-      record {
-        best = λ labels b. only_best t before space p labels (best_iff (λ l. Iff.symm (plans l)) b);
-        none = λ n. only_none t before space p (λ rival P. n rival ((plans rival).0 P));
-      }
-
-  pub planned_only : (gave : Planned) → PlannedBy C before gave → gave ≡ planned t before space
-  planned_only gave g = go (best_plan t) refl
-    where
-      valid : Valid t
-      valid = (checked_valid t before space p).0
-
-      go : (o : Option (List ℕ)) → best_plan t ≡ o → gave ≡ planned t before space
-      go none e =
-          let n = (no_plan t valid).0 e in
-          g.none (λ rival c. n rival ((plans rival).1 c)) ∙ sym (only_none t before space p n)
-      go (some a) e =
-          let b = (best_plan_iff t valid a).0 e in
-          g.best a (best_iff plans b) ∙ sym (only_best t before space p a b)
+use Rattle.table.specs.Planned.{Planned, checked, planned}
+use Rattle.table.specs.Former.{PlannedBy, ClashBefore4, PlanBefore4, setting_refusal_before4, NoGap, ClashBefore3, PlanBefore3, row_refusal_before3, NoneAllDay, PlanBefore2, OnlyMarks01}
+pub use Rattle.table.proofs.FormerPlanned.{planned_by, planned_only}
+pub use Rattle.table.proofs.FormerMarks.{allowed_kept_2, row_check_kept_2}
 
 -- ---- request 4
 
@@ -98,30 +70,6 @@ pub plans_kept_3 : (t : Table) → NoneAllDay t → (l : List ℕ) → PlanBefor
 plans_kept_3 t differ = assignment_iff (rows t) (λ i x h. Iff.rfl) (λ i j h k d. clash_kept_3 t.setting (row_at t i) (row_at t j) (differ i h) (differ j k))
 
 -- ---- request 2
-
-open_kept_2 : (kind : Kind) (hours : List (List ℕ)) (row : Row) (x : ℕ) → Open kind hours row x ↔ OpenBefore2 kind hours row x
-open_kept_2 Round hours row x = Iff.rfl
-open_kept_2 Run hours row zero = Iff.rfl
-open_kept_2 Run hours row (suc r) = Iff.rfl
-
-module _ (S : Setting) (row : Row) (h : row.mark ≤ 1) where
-  pub allowed_kept_2 : (x : ℕ) → Allowed S row x ↔ AllowedBefore2 S row x
-  allowed_kept_2 x =
-      let o = open_kept_2 S.kind S.hours row x in (
-        λ a. record { known = a.known; must = λ e. a.must (inl e); hours = o.0 a.hours },
-        λ a. record {
-          known = a.known;
-          must = λ e. a.must (omega (arith, must_least row.mark e));
-          receiver_1 = λ e. absurd (omega (arith, either_least row.mark 2 3 (omega arith) e));
-          receiver_2 = λ e. absurd (omega (arith, either_least row.mark 4 5 (omega arith) e));
-          hours = o.1 a.hours;
-        },
-      )
-
-  -- checks 6 and 7 of such a row
-  pub row_check_kept_2 : row_refusal_before3 S row ≡ row_refusal_before2 S row
-  unfolding row_refusal_before3 row_refusal_before2
-  row_check_kept_2 = rw (le-leb row.mark 1 h, le-leb row.mark max_mark (omega arith)) refl
 
 -- "TABLES WITH ONLY 0 AND 1 KEEP THEIR PLANS"
 pub plans_kept_2 : (t : Table) → OnlyMarks01 t → (l : List ℕ) → PlanBefore3 t l ↔ PlanBefore2 t l

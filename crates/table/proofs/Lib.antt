@@ -6,6 +6,8 @@ pub mod Testing
 pub mod Plans
 pub mod Checked
 pub mod Rivals
+pub mod FormerPlanned
+pub mod FormerMarks
 pub mod Former
 pub mod Request2
 pub mod Request3

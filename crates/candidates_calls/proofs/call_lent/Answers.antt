@@ -1,6 +1,5 @@
 -- `candidates_calls::call_lent` is safe: the parts that are lent are as long as they say.
 use mathlib.Core.Path.{sym}
-use borrow.Author.Rules.{rules}
 use native.Mathlib.Omega.{arith}
 use lib.Seq.{length-take-le}
 use Rattle.candidates_calls.proofs.call_lent.Goals as goal

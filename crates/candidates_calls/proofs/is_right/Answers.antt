@@ -2,7 +2,6 @@
 use mathlib.Core.Path.{◌≡◌, sym, ◌∙◌}
 use mathlib.Core.Bool.{Bool, true, false, not, false≢true}
 use mathlib.Core.Logic.{◌↔◌}
-use borrow.Author.Rules.{rules}
 use borrow.Author.Tests.{not-true, not-false}
 use Rattle.candidates_calls.proofs.is_right.Goals as goal
 
@@ -20,13 +19,12 @@ pub returns-then-not-is_written-2 : goal.returns-then-not-is_written-2
 returns-then-not-is_written-2 c = wrong _ c.if-not-is_written-2.true-raw (λ h. c.is_written-2.ensures ∙ h.each_count)
 
 pub returns : goal.returns
-returns c =
-    (
-      λ e. record {
-        reported = c.is_reported.ensures.0 (not-false _ c.if-not-is_reported.false-raw);
-        each_number = sym c.is_written.ensures ∙ not-false _ c.if-not-is_written.false-raw;
-        each_count = sym c.is_written-2.ensures ∙ not-false _ c.if-not-is_written-2.false-raw;
-        each_byte = sym c.is_left.ensures ∙ e;
-      },
-      λ h. c.is_left.ensures ∙ h.each_byte,
-    )
+returns c = (
+  λ e. record {
+    reported = c.is_reported.ensures.0 (not-false _ c.if-not-is_reported.false-raw);
+    each_number = sym c.is_written.ensures ∙ not-false _ c.if-not-is_written.false-raw;
+    each_count = sym c.is_written-2.ensures ∙ not-false _ c.if-not-is_written-2.false-raw;
+    each_byte = sym c.is_left.ensures ∙ e;
+  },
+  λ h. c.is_left.ensures ∙ h.each_byte,
+)

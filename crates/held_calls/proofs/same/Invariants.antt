@@ -1,13 +1,8 @@
 -- `held_calls::same` meets its contract: the lists are as long as each other and agree at the places passed.
-use mathlib.Core.Path.{◌≡◌, refl, ap}
-use mathlib.Core.Bool.{false≢true}
+use mathlib.Core.Path.{◌≡◌}
 use mathlib.Core.List.{List}
-use borrow.Author.Rules.{rules}
-use borrow.Author.Count.{below_none, below_more}
-use native.Mathlib.Omega.{arith}
 use Prim.Native.Nat.{ℕ, ◌≤◌, ◌<◌, ◌-◌}
 use lib.ListN.{length, get_or}
-use lib.Seq.{ext_get_or}
 use Rattle.held_calls.proofs.same.Given as goal
 
 abbrev pub Alike : List ℕ → List ℕ → ℕ → Type 0

@@ -2,7 +2,6 @@
 use mathlib.Core.Path.{◌≡◌, sym, ◌∙◌}
 use mathlib.Core.Bool.{Bool, true, false, not, false≢true}
 use mathlib.Core.Logic.{◌↔◌}
-use borrow.Author.Rules.{rules}
 use borrow.Author.Tests.{not-true, not-false}
 use Rattle.held_calls.proofs.same_held.Goals as goal
 
@@ -23,14 +22,13 @@ pub returns-then-not-same_bytes : goal.returns-then-not-same_bytes
 returns-then-not-same_bytes c = differ _ c.if-not-same_bytes.true-raw c.same_bytes.ensures (λ h. h.marks)
 
 pub returns : goal.returns
-returns c =
-    (
-      λ e. record {
-        numbers = c.same_numbers.ensures.0 (not-false _ c.if-not-same_numbers.false-raw);
-        starts = c.same_words.ensures.0 (not-false _ c.if-not-same_words.false-raw);
-        ends = c.same_words-2.ensures.0 (not-false _ c.if-not-same_words-2.false-raw);
-        marks = c.same_bytes.ensures.0 (not-false _ c.if-not-same_bytes.false-raw);
-        labels = c.same_bytes-2.ensures.0 e;
-      },
-      λ h. c.same_bytes-2.ensures.1 h.labels,
-    )
+returns c = (
+  λ e. record {
+    numbers = c.same_numbers.ensures.0 (not-false _ c.if-not-same_numbers.false-raw);
+    starts = c.same_words.ensures.0 (not-false _ c.if-not-same_words.false-raw);
+    ends = c.same_words-2.ensures.0 (not-false _ c.if-not-same_words-2.false-raw);
+    marks = c.same_bytes.ensures.0 (not-false _ c.if-not-same_bytes.false-raw);
+    labels = c.same_bytes-2.ensures.0 e;
+  },
+  λ h. c.same_bytes-2.ensures.1 h.labels,
+)

@@ -18,8 +18,7 @@ pub returns-then-numbers-numbers2-3 : goal.returns-then-numbers-numbers2-3
 returns-then-numbers-numbers2-3 c = (λ e. absurd (false≢true e), λ e. absurd (c.if-numbers-numbers2-3.true (ap (λ (n : Numbers). n.rows) e)))
 
 pub returns : goal.returns
-returns c =
-    (
-      λ e. all_four _ _ c.if-numbers-numbers2.false c.if-numbers-numbers2-2.false c.if-numbers-numbers2-3.false (eqb-true _ _ e),
-      λ e. eq-eqb _ _ (ap (λ (n : Numbers). n.count) e),
-    )
+returns c = (
+  λ e. all_four _ _ c.if-numbers-numbers2.false c.if-numbers-numbers2-2.false c.if-numbers-numbers2-3.false (eqb-true _ _ e),
+  λ e. eq-eqb _ _ (ap (λ (n : Numbers). n.count) e),
+)

@@ -1,6 +1,5 @@
 -- `held_table::add` meets its contract: the first checks, then the longer table is planned.
 use mathlib.Core.Path.{◌≡◌, sym, ap, ◌∙◌}
-use borrow.Author.Rules.{rules}
 use Rattle.refusals.specs.Refusals.{number_of}
 use Rattle.held_table.specs.Held.{kept}
 use Rattle.held_table.proofs.Request5.{add_said}

@@ -1,6 +1,5 @@
 -- `held_table::begin` meets its contract: each check in its turn.
 use mathlib.Core.Path.{◌≡◌, sym, ◌∙◌}
-use borrow.Author.Rules.{rules}
 use Rattle.refusals.specs.Refusals.{number_of}
 use Rattle.refusals.proofs.Refusals.{then_first, then_next}
 use Rattle.held_table.proofs.Beginning.{refused_begun, accepted_begun}

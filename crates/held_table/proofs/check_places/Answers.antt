@@ -1,7 +1,6 @@
 -- `held_table::check_places` meets its contract, from the tests on the way.
 use mathlib.Core.Path.{sym, ◌∙◌}
 use native.Mathlib.Omega.{arith}
-use borrow.Author.Rules.{rules}
 use borrow.Author.Tests.{eq-eqb, ne_eqb, not-true, not-false}
 use Rattle.held_table.specs.Held.{places_refusal}
 use Rattle.held_table.proofs.check_places.Goals as goal

@@ -1,7 +1,6 @@
 -- `held_table::check_withdraw` meets its contract: each check in its turn.
 use mathlib.Core.Path.{sym, ◌∙◌}
 use native.Mathlib.Omega.{arith}
-use borrow.Author.Rules.{rules}
 use borrow.Author.Tests.{lt-ltb, le-ltb, le-leb, lt-leb}
 use Rattle.refusals.proofs.Refusals.{then_first, then_next}
 use Rattle.table.specs.Planned.{space_bytes, space_refusal}

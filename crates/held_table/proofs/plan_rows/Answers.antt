@@ -4,7 +4,6 @@ use native.Mathlib.Omega.{arith}
 use mathlib.Core.List.{◌++◌}
 use lib.ListN.{length, take, drop}
 use lib.Seq.{length-take-le, take_at, drop_at}
-use borrow.Author.Rules.{rules}
 use Rattle.held_table.proofs.plan_rows.Goals as goal
 
 pub slice_bounds-plan-end : goal.slice_bounds-plan-end
@@ -27,7 +26,7 @@ returns c =
     let before = c.args.labels.now in
     let each : length given ≡ n = p.auto.labels ∙ length-take-le n before (omega (arith, c.requires.most, c.requires.labels_64)) in
     let first : take n (given ++ drop n before) ≡ given = take_at given (drop n before) n each in
-     record {
+    record {
       space_after = rw (first, ← c.round_setting-setting.ensures) p.ensures.planned;
       labels_unchanged = drop_at given (drop n before) n each;
     }

@@ -1,7 +1,6 @@
 -- `held_table::withdraw` meets its contract: the first checks, then the shorter table is planned.
 use mathlib.Core.Path.{◌≡◌, sym, ap, ◌∙◌}
 use lib.ListN.{length}
-use borrow.Author.Rules.{rules}
 use Rattle.refusals.specs.Refusals.{number_of}
 use Rattle.held_table.specs.Held.{kept}
 use Rattle.held_table.proofs.Request5.{withdraw_said}

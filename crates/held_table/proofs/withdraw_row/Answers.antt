@@ -2,7 +2,6 @@
 use Prim.Native.Nat.{◌-◌}
 use mathlib.Core.Path.{sym, ap, ◌∙◌}
 use native.Mathlib.Omega.{arith}
-use borrow.Author.Rules.{rules}
 use Rattle.window.specs.declared.Row.{Row}
 use Rattle.table.specs.Changes.{without_row}
 use Rattle.held_table.specs.Held.{kept, held_table}

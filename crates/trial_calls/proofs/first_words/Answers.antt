@@ -1,5 +1,5 @@
 -- `trial_calls::first_words` meets its contract: the part is as long as it says.
-use Rattle.std.proofs.Common.{sym, arith, length-take-le, rules}
+use Rattle.std.proofs.Common.{sym, arith, length-take-le}
 use Rattle.trial_calls.proofs.Parts.{take_all}
 use Rattle.trial_calls.proofs.first_words.Goals as goal
 

@@ -1,5 +1,4 @@
 -- `trial_calls::heard` is safe and ends: fewer labels are left at each turn.
-use Rattle.std.proofs.Common.{◌-◌, length, arith, rules}
 use Rattle.trial_calls.proofs.heard.Goals as goal
 
 pub loop-i-init : goal.loop-i-init

@@ -1,5 +1,5 @@
 -- `trial_calls::heard` is safe and ends: fewer labels are left at each turn.
-use Rattle.std.proofs.Common.{◌-◌, length, arith, rules}
+use Rattle.std.proofs.Common.{◌-◌, length}
 use Rattle.trial_calls.proofs.heard.Given as goal
 
 abbrev pub invariant-loop-i : goal.invariant-loop-i

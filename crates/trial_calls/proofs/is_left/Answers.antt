@@ -1,5 +1,5 @@
 -- `trial_calls::is_left` meets its contract: the working space is a list of which so many zeros are written.
-use Rattle.std.proofs.Common.{take, replicate, ap, ◌∙◌, rules}
+use Rattle.std.proofs.Common.{take, replicate, ap, ◌∙◌}
 use Rattle.trial_calls.specs.Judged.{is_written}
 use Rattle.trial_calls.proofs.is_left.Goals as goal
 

@@ -1,9 +1,8 @@
 -- `trial_calls::is_written` meets its contract: the places passed hold what is to stand there.
-use Rattle.std.proofs.Common.{◌≡◌, ◌-◌, ◌≤◌, true, eqb, length, sym, refl, ap, ◌∙◌, arith, rules, eq-eqb, ne_eqb}
-use Rattle.basics.specs.Lists.{at}
+use Rattle.std.proofs.Common.{◌≡◌, length, sym, refl, ◌∙◌, arith, eq-eqb, ne_eqb}
 use Rattle.basics.specs.Tests.{every}
 use Rattle.basics.proofs.Tests.{every_more, every_fails}
-use Rattle.trial_calls.specs.Judged.{written_at, is_written}
+use Rattle.trial_calls.specs.Judged.{is_written}
 use Rattle.trial_calls.proofs.is_written.Goals as goal
 
 pub loop-i-init : goal.loop-i-init

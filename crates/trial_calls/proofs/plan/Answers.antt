@@ -1,5 +1,5 @@
 -- `trial_calls::plan` is safe: the parts that are lent are as long as they say.
-use Rattle.std.proofs.Common.{sym, arith, length-take-le, rules}
+use Rattle.std.proofs.Common.{sym, arith, length-take-le}
 use Rattle.trial_calls.proofs.plan.Goals as goal
 
 pub slice_bounds-plan-end-2 : goal.slice_bounds-plan-end-2

@@ -1,5 +1,5 @@
 -- `trial_calls::written_at` meets its contract, from what the test told.
-use Rattle.std.proofs.Common.{rules, le-ltb, lt-ltb}
+use Rattle.std.proofs.Common.{le-ltb, lt-ltb}
 use Rattle.trial_calls.proofs.written_at.Goals as goal
 
 pub returns-then-i-first : goal.returns-then-i-first

@@ -1,16 +1,11 @@
 -- `words_calls::is_written` meets its contract: the places passed hold what is to stand there.
 use mathlib.Core.Path.{◌≡◌, refl, sym, ◌∙◌}
-use mathlib.Core.Bool.{true}
-use borrow.Author.Rules.{rules}
 use borrow.Author.Tests.{eq-eqb, ne_eqb}
 use native.Mathlib.Omega.{arith}
-use Prim.Native.Nat.{◌≤◌, ◌-◌}
-use lib.Dec.{eqb}
 use lib.ListN.{length}
-use Rattle.basics.specs.Lists.{at}
 use Rattle.basics.specs.Tests.{every}
 use Rattle.basics.proofs.Tests.{every_more, every_fails}
-use Rattle.trial_calls.specs.Judged.{written_at, is_written}
+use Rattle.trial_calls.specs.Judged.{is_written}
 use Rattle.words_calls.proofs.is_written.Goals as goal
 
 pub loop-i-init : goal.loop-i-init

@@ -2,7 +2,6 @@
 use mathlib.Core.Path.{sym}
 use native.Mathlib.Omega.{arith}
 use lib.Seq.{length-take-le}
-use borrow.Author.Rules.{rules}
 use Rattle.words_calls.proofs.labels_lent.Goals as goal
 
 pub slice_bounds-labels_of-end-2 : goal.slice_bounds-labels_of-end-2

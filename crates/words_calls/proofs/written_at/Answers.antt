@@ -1,5 +1,4 @@
 -- `words_calls::written_at` meets its contract, from what the test told.
-use borrow.Author.Rules.{rules}
 use borrow.Author.Tests.{lt-ltb, le-ltb}
 use Rattle.words_calls.proofs.written_at.Goals as goal
 
