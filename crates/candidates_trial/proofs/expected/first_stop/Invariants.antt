@@ -1,9 +1,0 @@
--- `candidates_trial::expected::first_stop` is safe and ends: fewer rows are left at each turn.
-use Rattle.std.proofs.Common.{◌-◌, rules}
-use Rattle.candidates_trial.proofs.expected.first_stop.Given as goal
-
-abbrev pub invariant-loop-i : goal.invariant-loop-i
-invariant-loop-i l = Unit {0}
-
-abbrev pub decreases-loop-i : goal.decreases-loop-i
-decreases-loop-i l = 8 - l.i

@@ -1,9 +1,0 @@
--- `candidates_trial::lists::numbers` is safe and ends: fewer places are left at each turn.
-use Rattle.std.proofs.Common.{◌-◌, rules}
-use Rattle.candidates_trial.proofs.lists.numbers.Given as goal
-
-abbrev pub invariant-loop-i : goal.invariant-loop-i
-invariant-loop-i l = Unit {0}
-
-abbrev pub decreases-loop-i : goal.decreases-loop-i
-decreases-loop-i l = 64 - l.i

@@ -1,9 +1,0 @@
--- `conformance::edges::third_labels` is safe and ends: fewer places are left at each turn.
-use Rattle.std.proofs.Common.{◌-◌, arith, rules}
-use Rattle.conformance.proofs.edges.third_labels.Given as goal
-
-abbrev pub invariant-loop-i : goal.invariant-loop-i
-invariant-loop-i l = Unit {0}
-
-abbrev pub decreases-loop-i : goal.decreases-loop-i
-decreases-loop-i l = 65 - l.i
