@@ -6,8 +6,8 @@ mod bench;
 mod edges;
 mod gap;
 mod kept;
-mod marks;
 mod order;
+mod six_marks;
 mod tape_edges;
 mod tapes;
 mod wrong;
@@ -20,7 +20,7 @@ fn main(rt: HostRuntime) -> io::Result<()> {
     print_group(&rt, b"edges", edges::all())?;
     print_group(&rt, b"order of refusals", order::all())?;
     print_group(&rt, b"plan tapes", tapes::all())?;
-    print_group(&rt, b"marks 0 to 5", marks::all())?;
+    print_group(&rt, b"marks 0 to 5", six_marks::all())?;
     print_group(&rt, b"beacons that send all day", all_day::all())?;
     print_group(&rt, b"gaps between windows", gap::all())?;
     print_group(&rt, b"plausible and wrong", wrong::all())?;
