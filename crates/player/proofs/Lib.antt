@@ -1,5 +1,6 @@
 -- Laws of the player, and the theorem that it follows its tape.
 pub mod Steps
+pub mod Finding
 pub mod Telling
 pub mod Following
 pub mod Request1

@@ -1,58 +1,21 @@
 -- What a step tells of a receiver is what its LISTENs mean at the tick: of LISTENs that do not overlap at most one covers it, and that one is told.
 use Prim.Native.Nat.{ℕ, ◌<◌}
-use mathlib.Core.Path.{◌≡◌, refl, sym, ap, ◌∙◌}
-use mathlib.Core.Logic.{◌⊎◌, inl, inr}
-use mathlib.Core.Bool.{Bool, true, false, cond, false≢true}
+use mathlib.Core.Path.{◌≡◌, sym, ap, ◌∙◌}
+use mathlib.Core.Logic.{inl, inr}
+use mathlib.Core.Bool.{true, false≢true}
 use mathlib.Core.List.Memᴰ
-use mathlib.Core.List.{List, [], ◌∷◌, Memᴰ}
+use mathlib.Core.List.{List, Memᴰ}
 use native.Mathlib.Decide.{ℕ_discrete}
 use native.Mathlib.Omega.{arith}
 use Rattle.window.specs.declared.Kind.{Kind}
-use Rattle.window.specs.Windows.{Covers, lies_in}
+use Rattle.window.specs.Windows.{Covers}
 use Rattle.window.proofs.Meaning.{lies_iff}
 use Rattle.plan_tape.specs.Stated.{Listen, listen_of}
 use Rattle.plan_reader.proofs.Parts.{Part}
 use Rattle.player.specs.declared.Receiver.{Receiver}
 use Rattle.player.specs.declared.Receiver.TheVariants.{Idle, Listening}
 use Rattle.player.specs.Told.{Tells, telling}
-
--- ---- which LISTEN is told, on any LISTENs
-
-module _ (kind : Kind) (R tick : ℕ) where
-  abbrev Lies : Listen → Bool
-  Lies w = lies_in kind R w.start w.end tick
-
-  -- a LISTEN in whose window the tick lies, and which is told
-  record Told (told : Receiver) (ws : List Listen) : Type 0 where
-    one : Listen
-    member : Memᴰ one ws
-    lies : Lies one ≡ true
-    is : told ≡ Listening one.row one.end
-
-  record None (told before : Receiver) (ws : List Listen) : Type 0 where
-    is : told ≡ before
-    no_one : (w : Listen) → Memᴰ w ws → Lies w ≡ false
-
-  abbrev Found : Receiver → Receiver → List Listen → Type 0
-  Found told before ws = None told before ws ⊎ Told told ws
-
-  -- what is told so far, with the LISTEN v looked at
-  abbrev after : Bool → Listen → Receiver → Receiver
-  after b v before = cond b (Listening v.row v.end) before
-
-  found_more : {told : Receiver} (v : Listen) (ws : List Listen) (before : Receiver) (b : Bool) → Lies v ≡ b → Found told (after b v before) ws → Found told before (v ∷ ws)
-  found_more v ws before b e (inr t) = inr (record { one = t.one; member = Memᴰ.tail t.member; lies = t.lies; is = t.is })
-  found_more v ws before true e (inl n) = inr (record { one = v; member = Memᴰ.head refl; lies = e; is = n.is })
-  found_more v ws before false e (inl n) = inl (record { is = n.is; no_one = either })
-    where
-      either : (w : Listen) → Memᴰ w (v ∷ ws) → Lies w ≡ false
-      either w (Memᴰ.head q) = ap Lies q ∙ e
-      either w (Memᴰ.tail m) = n.no_one w m
-
-  found : (before : Receiver) (ws : List Listen) → Found (telling kind R tick before ws) before ws
-  unfolding telling
-  found before [] = inl (record { is = refl; no_one = λ w m. absurd (Memᴰ.not-nil m) })
-  found before (v ∷ ws) = found_more v ws before (Lies v) refl (found (after (Lies v) v before) ws)
+use Rattle.player.proofs.Finding.{Lies, Found, found}
 
 -- ---- on the LISTENs of a receiver of a tape that the writer can make
 
