@@ -30,7 +30,7 @@ FNR == 1 {
 }
 # Contracts and imports of proofs are no code; each stands on one line.
 /^ *(requires|ensures) / { if (!/\}$/) fail(FILENAME ":" FNR ": a contract over more than one line"); next }
-/^ *#!?\[.*\]$/ { next } # attributes
+/^ *#!?\[[^][]*\]$/ { next } # attributes
 /^ *ghost / { if (!/;$/) fail(FILENAME ":" FNR ": a ghost item over more than one line"); next }
 {
     text = $0
