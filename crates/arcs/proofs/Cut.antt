@@ -7,7 +7,6 @@ use mathlib.Core.Bool.{Bool, true, false, cond, ◌&&◌, ◌||◌, false≢true
 use mathlib.Core.List.{List}
 use native.Mathlib.Omega.{arith}
 use lib.Dec.{leb}
-use borrow.Author.Tests.{le-leb, lt-leb}
 use lib.ListN.{length}
 use Rattle.basics.specs.Lists.{at}
 use Rattle.basics.proofs.Tests.{Test, pass, fail, test, leb_iff, and_iff, or_iff}
@@ -61,16 +60,6 @@ ends {C} {p} {n} below some whole = go (test (p + n) C) (test (end_of C p n) p)
     go (pass h) (fail k) = short refl h k
     go (fail h) (pass k) = past (omega arith) k
     go (fail h) (fail k) = absurd (omega arith)
-
--- the two ways to compute an end
-module _ {C p n : ℕ} (below : p < C) where
-  pub end_short : n ≤ C - p → p + n ≡ end_of C p n
-  unfolding end_of
-  end_short h = rw (le-leb (p + n) C (omega arith))
-
-  pub end_past : C - p < n → n - (C - p) ≡ end_of C p n
-  unfolding end_of
-  end_past h = rw (lt-leb (p + n) C (omega arith)) (omega arith)
 
 both_iff : (a b c d : ℕ) {P : Type 0} → ((a ≤ b) × (c ≤ d)) ↔ P → (leb a b && leb c d ≡ true) ↔ P
 both_iff a b c d = Iff.trans (and_iff (leb_iff a b) (leb_iff c d))

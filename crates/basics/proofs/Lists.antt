@@ -5,18 +5,16 @@ use mathlib.Core.List.{List, [], ◌∷◌, ◌++◌, map}
 use mathlib.Core.Logic.{◌≢◌}
 use native.Mathlib.Omega.{arith}
 use lib.ListN.{length, get_or, take, drop, replicate}
+use Rattle.std.proofs.lemmas.List.{get_or_default, get_or-map}
+use Rattle.std.proofs.lemmas.List.Edits.{length-remove}
 use Rattle.basics.specs.Lists.{at, list_of, without}
 
 -- within a list the value that stands for "past its end" does not matter
 pub get_d_any : (l : List ℕ) (i d e : ℕ) → i < length l → get_or l i d ≡ get_or l i e
-get_d_any [] i d e h = absurd (omega arith)
-get_d_any (x ∷ l) zero d e h = refl
-get_d_any (x ∷ l) (suc i) d e h = get_d_any l i d e (omega arith)
+get_d_any = get_or_default
 
 pub at_map : (f : ℕ → ℕ) (l : List ℕ) (i : ℕ) → i < length l → at (map f l) i ≡ f (at l i)
-at_map f [] i h = absurd (omega arith)
-at_map f (x ∷ l) zero h = refl
-at_map f (x ∷ l) (suc i) h = at_map f l i (omega arith)
+at_map f l i h = get_or-map f l i 0 0 h
 
 -- ---- the list of so many entries
 
@@ -47,10 +45,7 @@ without_split zero (x ∷ l) = refl
 without_split (suc k) (x ∷ l) = ap (λ m. x ∷ m) (without_split k l)
 
 pub length_without : (k : ℕ) (l : List ℕ) → k < length l → length (without k l) + 1 ≡ length l
-unfolding without
-length_without k [] h = absurd (omega arith)
-length_without zero (x ∷ l) h = omega arith
-length_without (suc k) (x ∷ l) h = omega (arith, length_without k l (omega arith))
+length_without k l h = rw (without_split k l) (length-remove l k h)
 
 -- the place in the list of entry i of the list without entry k
 unfoldable pub past : ℕ → ℕ → ℕ

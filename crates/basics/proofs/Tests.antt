@@ -1,14 +1,15 @@
 -- Bool tests and what they say: a test written clause for clause like a statement is true exactly if the statement holds.
 use Prim.Native.Nat.{ℕ, zero, suc, ◌+◌, ◌≤◌, ◌<◌}
-use mathlib.Core.Path.{◌≡◌, refl, sym, ap₂}
+use mathlib.Core.Path.{◌≡◌, refl, sym}
 use mathlib.Core.Logic.Iff
 use mathlib.Core.Logic.{◌↔◌, ◌⊎◌, inl, inr, ⊎_elim}
-use mathlib.Core.Bool.{Bool, true, false, cond, not, ◌&&◌, ◌||◌, and-false, and-eq-true_iff, false≢true}
+use mathlib.Core.Bool.{Bool, true, false, cond, not, ◌&&◌, ◌||◌, and-false, false≢true}
 use native.Mathlib.Omega.{arith}
 use native.Mathlib.Numerals.{add-one}
 use native.Mathlib.Nat.{eq-or-lt_of_le, le_of_suc-le-suc}
 use lib.Dec.{leb, ltb, eqb}
-use borrow.Author.Tests.{leb-true, leb-false, le-leb, ltb-true, lt-ltb, eqb-true, eq-eqb}
+use borrow.Author.Tests.{leb-true, leb-false, le-leb}
+use Rattle.std.proofs.lemmas.Bool.Decides.{same_from_decides, Decides-ltb, Decides-eqb, Decides-not, Decides-and, Decides-or}
 use Rattle.basics.specs.Tests.{◌⇒◌, every}
 
 -- what a test a ≤ b told
@@ -34,30 +35,25 @@ pub leb_iff : (a b : ℕ) → (leb a b ≡ true) ↔ (a ≤ b)
 leb_iff a b = (leb-true a b, le-leb a b)
 
 pub ltb_iff : (a b : ℕ) → (ltb a b ≡ true) ↔ (a < b)
-ltb_iff a b = (ltb-true a b, lt-ltb a b)
+ltb_iff = Decides-ltb
 
 pub eqb_iff : (a b : ℕ) → (eqb a b ≡ true) ↔ (a ≡ b)
-eqb_iff a b = (eqb-true a b, eq-eqb a b)
+eqb_iff = Decides-eqb
 
 -- two tests that say the same are equal
 pub bool_ext : (a b : Bool) → (a ≡ true → b ≡ true) → (b ≡ true → a ≡ true) → a ≡ b
-bool_ext true true f g = refl
-bool_ext true false f g = absurd (false≢true (f refl))
-bool_ext false true f g = absurd (false≢true (g refl))
-bool_ext false false f g = refl
+bool_ext a b f g = same_from_decides a b (f, g) (λ e. e, λ e. e)
 
 module _ {P : Type 0} where
   pub not_iff : {a : Bool} → (a ≡ true) ↔ P → (not a ≡ true) ↔ (P → ⊥)
-  not_iff {a = true} f = (λ e. absurd (false≢true e), λ g. absurd (g (f.0 refl)))
-  not_iff {a = false} f = (λ e p. false≢true (f.1 p), λ g. refl)
+  not_iff {a} = Decides-not a
 
   module _ {Q : Type 0} where
     pub and_iff : {a b : Bool} → (a ≡ true) ↔ P → (b ≡ true) ↔ Q → (a && b ≡ true) ↔ (P × Q)
-    and_iff {a} {b} f g = (λ e. (f.0 ((and-eq-true_iff a b).0 e).0, g.0 ((and-eq-true_iff a b).0 e).1), λ h. (and-eq-true_iff a b).1 (f.1 h.0, g.1 h.1))
+    and_iff {a} {b} = Decides-and a b
 
     pub or_iff : {a b : Bool} → (a ≡ true) ↔ P → (b ≡ true) ↔ Q → (a || b ≡ true) ↔ (P ⊎ Q)
-    or_iff {a = true} f g = (λ e. inl (f.0 refl), λ h. refl)
-    or_iff {a = false} f g = (λ e. inr (g.0 e), ⊎_elim (λ p. absurd (false≢true (f.1 p))) g.1)
+    or_iff {a} {b} = Decides-or a b
 
     pub imp_iff : {a b : Bool} → (a ≡ true) ↔ P → (b ≡ true) ↔ Q → ((a ⇒ b) ≡ true) ↔ (P → Q)
     imp_iff {a = true} f g = (λ e p. g.0 e, λ h. g.1 (h (f.0 refl)))
@@ -70,11 +66,6 @@ pub every_iff : (n : ℕ) {p : ℕ → Bool} {P : ℕ → Type 0} → ((i : ℕ)
 unfolding every
 every_iff zero f = (λ e i h. absurd (omega arith), λ g. refl)
 every_iff (suc n) {P} f = Iff.trans (and_iff (f n (omega arith)) (every_iff n (λ i h. f i (omega arith)))) (all_suc P n)
-
-pub every_same : (n : ℕ) {p q : ℕ → Bool} → ((i : ℕ) → i < n → p i ≡ q i) → every n p ≡ every n q
-unfolding every
-every_same zero f = refl
-every_same (suc n) f = ap₂ ◌&&◌ (f n (omega arith)) (every_same n (λ i h. f i (omega arith)))
 
 -- one number more, from 0 on
 pub every_more : (p : ℕ → Bool) (i : ℕ) → every i p ≡ true → p i ≡ true → every (i + 1) p ≡ true

@@ -30,11 +30,5 @@ pub fn smaller(x: u8, y: u8) -> u8
 pub fn has_places(starts: usize, ends: usize, marks: usize) -> bool
     ensures { result ≡ has_places starts ends marks }
 {
-    if starts != MAX_ROWS {
-        return false;
-    }
-    if ends != MAX_ROWS {
-        return false;
-    }
-    marks == MAX_ROWS
+    starts == MAX_ROWS && ends == MAX_ROWS && marks == MAX_ROWS
 }

@@ -3,10 +3,10 @@ use Prim.Native.Nat.{ℕ, ◌+◌, ◌≤◌, ◌<◌}
 use mathlib.Core.Path.{◌≡◌, sym, ap, ◌∙◌}
 use mathlib.Core.Logic.{◌≢◌, ◌↔◌, ◌⊎◌, inl, inr}
 use mathlib.Core.Bool.{true}
-use mathlib.Core.List.{List, ◌++◌}
+use mathlib.Core.List.{List}
 use native.Mathlib.Omega.{arith}
 use native.Mathlib.Nat.{eq-or-lt_of_le}
-use lib.ListN.{length, set, length-set, length-append, get_or-append}
+use lib.ListN.{length, set, length-set}
 use lib.Seq.{get_or-set_same, get_or-set_other}
 use Rattle.basics.specs.Lists.{at}
 use Rattle.basics.proofs.Filling.{Filled}
@@ -16,6 +16,8 @@ use Rattle.labels.proofs.Best.{assignment_iff}
 use Rattle.window.specs.declared.Row.{Row}
 use Rattle.window.specs.Windows.{ticks_in}
 use Rattle.window.proofs.Meaning.{window_start}
+use Rattle.line.specs.Cells.{core_bytes}
+use Rattle.tracks.specs.Tracks.{Lent}
 use Rattle.arcs.specs.Arcs.{Meet, Arcs, Assigned}
 use Rattle.table.specs.declared.Setting.{Setting}
 use Rattle.table.specs.Tables.{Table, rows, row_at, Allowed, Clash, Plan, ValidSetting, ValidRow, Valid, is_allowed}
@@ -23,7 +25,7 @@ use Rattle.table.specs.Changes.{with_row}
 use Rattle.table.proofs.Plans.{allowed_iff}
 use Rattle.table.proofs.Changes.{rows_with_row, row_before, row_last, valid_with}
 use Rattle.best_plan.proofs.Reach.{circle_least, cut_most, arc_some, close_iff}
-use Rattle.best_plan.specs.Rows.{circle_of, arc_of, permission_of, ArcLists, ArcsOf, ValidWith}
+use Rattle.best_plan.specs.Rows.{circle_of, arc_of, permission_of, ArcsIn, ArcsOf, ValidWith}
 
 module _ (S : Setting) where
   pub circle_some : ValidSetting S → 1 ≤ circle_of S
@@ -68,9 +70,9 @@ module _ (t : Table) (valid : Valid t) {starts lengths perms : List ℕ} (arcs :
         some = circle_some S valid.setting;
         few = omega (arith, valid.few, arcs.lists.each_start);
         each = arcs.lists.each_length ∙ sym arcs.lists.each_start;
-        start = λ i h. let k = within i h in rw (arcs.start i k) (arc_start S (row_at t i) (valid.row i k));
-        proper = λ i h. let k = within i h in rw (arcs.ticks i k) (arc_proper S (row_at t i) (valid.row i k));
-        whole = λ i h. let k = within i h in rw (arcs.ticks i k) (arc_most S (row_at t i) (valid.row i k));
+        start = λ i h. let k = within i h in rw (arcs.each.start i k) (arc_start S (row_at t i) (valid.row i k));
+        proper = λ i h. let k = within i h in rw (arcs.each.ticks i k) (arc_proper S (row_at t i) (valid.row i k));
+        whole = λ i h. let k = within i h in rw (arcs.each.ticks i k) (arc_most S (row_at t i) (valid.row i k));
       }
     where
       within : (i : ℕ) → i < length starts → i < rows t
@@ -81,67 +83,65 @@ module _ (t : Table) (valid : Valid t) {starts lengths perms : List ℕ} (arcs :
   plan_assigned l = rw arcs.lists.each_start (assignment_iff (rows t) mays clashes l)
     where
       mays : (i x : ℕ) → i < rows t → Allowed S (row_at t i) x ↔ (permits (at perms i) x ≡ true)
-      mays i x h = rw (arcs.perm i h) (permission_iff S (row_at t i) x)
+      mays i x h = rw (arcs.each.perm i h) (permission_iff S (row_at t i) x)
 
       clashes : (i j : ℕ) → i < rows t → j < rows t → i ≢ j → Clash S (row_at t i) (row_at t j) ↔ Meet (circle_of S) (at starts i) (at lengths i) (at starts j) (at lengths j)
       clashes i j h k d =
-          rw (arcs.start i h, arcs.ticks i h, arcs.start j k, arcs.ticks j k)
+          rw (arcs.each.start i h, arcs.each.ticks i h, arcs.each.start j k, arcs.each.ticks j k)
           (clash_iff S (row_at t i) (row_at t j) valid.setting (valid.row i h) (valid.row j k))
+
+  -- what the core is lent
+  pub core_lent : {C : ℕ} {space : List ℕ} → C ≡ circle_of t.setting → core_bytes ≤ length space → Lent C starts lengths perms space
+  core_lent e room = record { arcs = rw e arcs_within; each_perm = arcs.lists.each_perm ∙ sym arcs.lists.each_start; room = room }
 
 -- ---- the loop that writes arcs and permissions
 
-pub arcs_set : (t : Table) {xs ys zs starts lengths perms : List ℕ} → ArcLists t xs ys zs → (i : ℕ) → i ≡ rows t
+pub arcs_set : (t : Table) {xs ys zs starts lengths perms : List ℕ} (i : ℕ) → i ≡ rows t
     → Filled (λ k. (arc_of t.setting (row_at t k)).start) i xs starts
     → Filled (λ k. (arc_of t.setting (row_at t k)).length) i ys lengths
     → Filled (λ k. permission_of t.setting (row_at t k)) i zs perms
-    → ArcsOf t starts lengths perms
-arcs_set t lists i e a b c =
-    record {
-      lists = record { each_start = a.each ∙ lists.each_start; each_length = b.each ∙ lists.each_length; each_perm = c.each ∙ lists.each_perm };
-      start = λ k h. a.done k (omega arith);
-      ticks = λ k h. b.done k (omega arith);
-      perm = λ k h. c.done k (omega arith);
-    }
+    → ArcsIn t starts lengths perms
+arcs_set t i e a b c = record { start = λ k h. a.done k (omega arith); ticks = λ k h. b.done k (omega arith); perm = λ k h. c.done k (omega arith) }
+
+-- written into lists with a place for each row
+pub arcs_of : (t : Table) {a b c : List ℕ} → ArcsIn t a b c → length a ≡ rows t → length b ≡ rows t → length c ≡ rows t → ArcsOf t a b c
+arcs_of t p x y z = record { lists = record { each_start = x; each_length = y; each_perm = z }; each = p }
 
 -- ---- a row more
 
 -- in a list that begins with an entry for each row, the entry after them is set: then there is one for each row of the longer table
-module _ (t : Table) (valid : Valid t) (new : Row) (f : Row → ℕ) (first rest : List ℕ) {l : List ℕ} (e : l ≡ set (first ++ rest) (rows t) (f new)) (one : length rest ≡ 1) (each : length first ≡ rows t) where
-  each_with : length l ≡ rows (with_row t new)
-  each_with = omega (arith, ap length e, length-set (first ++ rest) (rows t) (f new), length-append first rest, rows_with_row t new)
-
-  entry_with : ((i : ℕ) → i < rows t → at first i ≡ f (row_at t i)) → (i : ℕ) → i < rows (with_row t new) → at l i ≡ f (row_at (with_row t new) i)
+module _ (t : Table) (valid : Valid t) (new : Row) (f : Row → ℕ) (old : List ℕ) (n : ℕ) (all : n ≡ rows t) {l : List ℕ} (e : l ≡ set old n (f new)) (more : length old ≡ n + 1) where
+  entry_with : ((i : ℕ) → i < rows t → at old i ≡ f (row_at t i)) → (i : ℕ) → i < rows (with_row t new) → at l i ≡ f (row_at (with_row t new) i)
   entry_with h i b = go (eq-or-lt_of_le (omega (arith, rows_with_row t new)))
     where
       go : (i ≡ rows t) ⊎ (i < rows t) → at l i ≡ f (row_at (with_row t new) i)
       go (inl q) =
-          rw (q, e, row_last t new valid.each_end valid.each_mark)
-          (get_or-set_same (first ++ rest) (rows t) (f new) 0 (omega (arith, length-append first rest)))
+          rw (q, e, all, row_last t new valid.each_end valid.each_mark)
+          (get_or-set_same old (rows t) (f new) 0 (omega arith))
       go (inr q) =
           rw (e, row_before t new valid.each_end valid.each_mark i q)
-          (get_or-set_other (first ++ rest) (rows t) i (f new) 0 (λ r. omega arith) ∙ get_or-append first rest 0 i (omega arith) ∙ h i q)
+          (get_or-set_other old n i (f new) 0 (λ r. omega arith) ∙ h i q)
 
 pub longer_valid : (t : Table) (new : Row) → ValidWith t new → Valid (with_row t new)
 longer_valid t new v = valid_with t new v.valid.each_end v.valid.each_mark v.valid v.new v.few
 
 -- the arc and permission of a row are written after those of a table
-module _ (t : Table) (valid : Valid t) (new : Row) {a b c : List ℕ} (arcs : ArcsOf t a b c) (ra rb rc : List ℕ) {starts lengths perms : List ℕ}
-    (stored : (starts ≡ set (a ++ ra) (rows t) (arc_of t.setting new).start) × ((lengths ≡ set (b ++ rb) (rows t) (arc_of t.setting new).length) × (perms ≡ set (c ++ rc) (rows t) (permission_of t.setting new)))) where
-  pub arcs_with : length ra ≡ 1 → length rb ≡ 1 → length rc ≡ 1 → ArcsOf (with_row t new) starts lengths perms
+module _ (t : Table) (valid : Valid t) (new : Row) {a b c : List ℕ} (arcs : ArcsIn t a b c) (n : ℕ) (all : n ≡ rows t) {starts lengths perms : List ℕ}
+    (start_set : starts ≡ set a n (arc_of t.setting new).start) (length_set : lengths ≡ set b n (arc_of t.setting new).length) (perm_set : perms ≡ set c n (permission_of t.setting new)) where
+  pub arcs_with : length a ≡ n + 1 → length b ≡ n + 1 → length c ≡ n + 1 → ArcsOf (with_row t new) starts lengths perms
   arcs_with x y z =
-      let arc_start : Row → ℕ = λ r. (arc_of t.setting r).start in
-      let arc-length : Row → ℕ = λ r. (arc_of t.setting r).length in
-      let e = arcs.lists.each_start in
-      let f = arcs.lists.each_length in
-      let g = arcs.lists.each_perm in
+      let more = rows_with_row t new in
       record {
         lists =
             record {
-              each_start = each_with t valid new arc_start a ra stored.0 x e;
-              each_length = each_with t valid new arc-length b rb stored.1.0 y f;
-              each_perm = each_with t valid new (permission_of t.setting) c rc stored.1.1 z g;
+              each_start = ap length start_set ∙ length-set a n _ ∙ omega arith;
+              each_length = ap length length_set ∙ length-set b n _ ∙ omega arith;
+              each_perm = ap length perm_set ∙ length-set c n _ ∙ omega arith;
             };
-        start = entry_with t valid new arc_start a ra stored.0 x e arcs.start;
-        ticks = entry_with t valid new arc-length b rb stored.1.0 y f arcs.ticks;
-        perm = entry_with t valid new (permission_of t.setting) c rc stored.1.1 z g arcs.perm;
+        each =
+            record {
+              start = entry_with t valid new (λ r. (arc_of t.setting r).start) a n all start_set x arcs.start;
+              ticks = entry_with t valid new (λ r. (arc_of t.setting r).length) b n all length_set y arcs.ticks;
+              perm = entry_with t valid new (permission_of t.setting) c n all perm_set z arcs.perm;
+            };
       }

@@ -1,6 +1,6 @@
 -- Inner: The rows of a checked table as arcs of a circle and permissions: a row's arc has the ticks of its window and of the gap after it, and its permission the labels that a plan allows it.
-use Rattle.std.specs.Prelude.{ℕ, suc, ◌+◌, ◌≤◌, ◌<◌, ◌≡◌, cond, List, leb, length}
-use Rattle.std.proofs.Math.Option.{Option, none, some}
+use Rattle.std.specs.Prelude.{ℕ, zero, suc, ◌+◌, ◌≤◌, ◌<◌, ◌≡◌, cond, List, leb, length, Option, Some, None}
+use Rattle.std.proofs.Math.Option.{Option as Maybe, none, some}
 use Rattle.line.specs.Cells.{core_bytes}
 use Rattle.basics.specs.Limits.{max_rows}
 use Rattle.basics.specs.Lists.{at}
@@ -13,7 +13,6 @@ use Rattle.window.specs.Windows.{ticks_in}
 use Rattle.window.specs.Gaps.{max_gap}
 use Rattle.table.specs.declared.Setting.{Setting}
 use Rattle.table.specs.Tables.{Table, rows, row_at, is_allowed, ValidSetting, ValidRow, Valid}
-use Rattle.table.specs.Planned.{best_plan}
 use Rattle.best_plan.specs.declared.Arc.{Arc}
 
 -- The ticks of the circle. A run is a circle that no arc crosses: the longest gap fits between its last tick and its first, so that the gap of the last window does not reach the first.
@@ -43,11 +42,11 @@ unfoldable pub permission_of : Setting → Row → ℕ
 unfolding permission is_allowed
 permission_of S row = permission (is_allowed S row 0) (is_allowed S row 1) (is_allowed S row 2)
 
--- place i in lists for arcs and permissions
-pub record ArcPlace (i : ℕ) (starts lengths perms : List ℕ) : Type 0 where
-  pub start : i < length starts
-  pub ticks : i < length lengths
-  pub perm : i < length perms
+-- room for n arcs and permissions
+pub record ArcRoom (n : ℕ) (starts lengths perms : List ℕ) : Type 0 where
+  pub start : n ≤ length starts
+  pub ticks : n ≤ length lengths
+  pub perm : n ≤ length perms
 
 -- lists as long as the table has rows, for their arcs and permissions
 pub record ArcLists (t : Table) (starts lengths perms : List ℕ) : Type 0 where
@@ -55,12 +54,16 @@ pub record ArcLists (t : Table) (starts lengths perms : List ℕ) : Type 0 where
   pub each_length : length lengths ≡ rows t
   pub each_perm : length perms ≡ rows t
 
--- they hold the arcs and permissions of the table's rows
-pub record ArcsOf (t : Table) (starts lengths perms : List ℕ) : Type 0 where
-  pub lists : ArcLists t starts lengths perms
+-- lists that begin with the arcs and permissions of the table's rows
+pub record ArcsIn (t : Table) (starts lengths perms : List ℕ) : Type 0 where
   pub start : (i : ℕ) → i < rows t → at starts i ≡ (arc_of t.setting (row_at t i)).start
   pub ticks : (i : ℕ) → i < rows t → at lengths i ≡ (arc_of t.setting (row_at t i)).length
   pub perm : (i : ℕ) → i < rows t → at perms i ≡ permission_of t.setting (row_at t i)
+
+-- they hold the arcs and permissions of the table's rows
+pub record ArcsOf (t : Table) (starts lengths perms : List ℕ) : Type 0 where
+  pub lists : ArcLists t starts lengths perms
+  pub each : ArcsIn t starts lengths perms
 
 -- what planning a table that passed its checks is lent
 pub record Checked (t : Table) (labels space : List ℕ) : Type 0 where
@@ -84,19 +87,13 @@ pub record CountableWith (t : Table) (row : Row) (space : List ℕ) : Type 0 whe
   pub longer : ValidWith t row
   pub room : core_bytes ≤ length space
 
--- how many rows a plan hears, and one more; 0 without a plan
-unfoldable pub count_of : Option (List ℕ) → ℕ
+-- the count in an answer that is one more, and 0 where there is none
+abbrev pub count_in : ℕ → Option ℕ
+count_in zero = None
+count_in (suc n) = Some n
+
+-- how many rows a plan hears; none without a plan
+unfoldable pub count_of : Maybe (List ℕ) → Option ℕ
 unfolding heard
-count_of none = 0
-count_of (some plan) = suc (heard plan)
-
--- what counting for arcs and permissions is lent: they are those of some checked table
-pub record CountableArcs (S : Setting) (starts lengths perms space : List ℕ) : Type 0 where
-  pub of : Table
-  pub setting : of.setting ≡ S
-  pub countable : Countable of space
-  pub arcs : ArcsOf of starts lengths perms
-
--- and what it gives is the count of every checked table whose arcs and permissions they are
-abbrev pub CountOfArcs : Setting → List ℕ → List ℕ → List ℕ → ℕ → Type 0
-CountOfArcs S starts lengths perms r = (t : Table) → t.setting ≡ S → Valid t → ArcsOf t starts lengths perms → r ≡ count_of (best_plan t)
+count_of none = None
+count_of (some plan) = Some (heard plan)

@@ -1,17 +1,18 @@
 // The best plan of a table that has passed its checks, its count alone, and the clearing of the working space: what the planner and its like are made of.
 #![tactic(auto)]
 
-ghost use Rattle.std.specs.Prelude.{◌≡◌, ◌++◌, map, ◌≤◌, length, drop, replicate, set};
+ghost use Rattle.std.specs.Prelude.{◌≡◌, ◌+◌, ◌++◌, map, ◌≤◌, length, drop, replicate, set};
 ghost use Rattle.labels.specs.Permission.{label_of};
 ghost use Rattle.line.specs.Cells.{core_bytes};
-ghost use Rattle.table.specs.Tables.{table, Valid, ValidSetting};
+ghost use Rattle.refusals.specs.Refusals.{answer_of};
+ghost use Rattle.table.specs.Tables.{lent, rows, Valid, ValidSetting};
 ghost use Rattle.table.specs.Planned.{space_bytes, best_plan, answering, given};
 ghost use Rattle.table.specs.Changes.{with_row};
-ghost use Rattle.best_plan.specs.Rows.{circle_of, cut_off, arc_of, HasArc, permission_of, ArcPlace, ArcLists, ArcsOf, Checked, Countable, CountableArcs, CountOfArcs, ValidWith, CountableWith, count_of};
+ghost use Rattle.best_plan.specs.Rows.{circle_of, cut_off, arc_of, HasArc, permission_of, ArcRoom, ArcsIn, Checked, Countable, CountableWith, count_in, count_of};
 
 use basics::MAX_ROWS;
-use refusals::{Answer, Refusal};
-use table::Setting;
+use refusals::Refusal;
+use table::{Setting, Table};
 use window::{Kind, MAX_GAP, Row};
 
 // The working space that a call needs and clears, in bytes.
@@ -25,18 +26,19 @@ pub struct Arc {
 }
 
 // The ticks of the circle on which a table's rows are arcs. R is at most 43,200, so that the sum, at most 43,800, fits 16 bits.
+#[tactic(auto, unfolding(crate::specs::Rows::circle_ticks))]
 fn circle_of(setting: Setting) -> u16
     requires { ValidSetting setting }
     ensures { result ≡ circle_of setting }
 {
-    let kind = setting.kind;
-    match kind {
+    match setting.kind {
         Kind::Round => setting.ticks,
         Kind::Run => setting.ticks + MAX_GAP,
     }
 }
 
 // An arc's length, cut off at the circle.
+#[tactic(auto, unfolding(crate::specs::Rows::cut_off))]
 fn cut_off(circle: u16, length: u16) -> u16
     ensures { result ≡ cut_off circle length }
 {
@@ -47,19 +49,22 @@ fn cut_off(circle: u16, length: u16) -> u16
 }
 
 // The arc of a row. A window has at most R ticks and R is at most 43,200; the gap is at most 600: the sum, at most 43,800, fits 16 bits.
+#[tactic(auto, using(window::proofs::Meaning::ticks_most), unfolding(crate::specs::Rows::arc_of))]
 fn arc_of(setting: Setting, row: Row) -> Arc
     requires { HasArc setting row }
     ensures { result ≡ arc_of setting row }
 {
-    let kind = setting.kind;
-    let start = row.start;
-    let ticks = window::ticks_in(kind, setting.ticks, start, row.end);
+    let ticks = row.window().length(setting.kind, setting.ticks);
     let circle = circle_of(setting);
     let length = cut_off(circle, ticks + setting.gap);
-    Arc { start, length }
+    Arc {
+        start: row.start,
+        length,
+    }
 }
 
 // The labels that a row may have, as a permission.
+#[tactic(auto, unfolding(crate::specs::Rows::permission_of))]
 fn permission(setting: Setting, row: Row) -> u8
     ensures { result ≡ permission_of setting row }
 {
@@ -70,46 +75,35 @@ fn permission(setting: Setting, row: Row) -> u8
     )
 }
 
-// Writes the arc and permission of a row at place i.
+// Writes the arc and permission of a row at place i. The three lists stay apart, as the core takes them; a struct of `&mut` lists would only be taken apart for it.
 fn set_arc(
     setting: Setting,
     row: Row,
     i: usize,
-    arc_starts: &mut [u16],
-    arc_lengths: &mut [u16],
+    starts: &mut [u16],
+    lengths: &mut [u16],
     perms: &mut [u8],
 )
     requires has_arc { HasArc setting row }
-    requires arc_place { ArcPlace i arc_starts.old arc_lengths.old perms.old }
-    ensures arc_starts_after { arc_starts.new ≡ set arc_starts.old i (arc_of setting row).start }
-    ensures arc_lengths_after { arc_lengths.new ≡ set arc_lengths.old i (arc_of setting row).length }
+    requires room { ArcRoom (i + 1) starts.old lengths.old perms.old }
+    ensures starts_after { starts.new ≡ set starts.old i (arc_of setting row).start }
+    ensures lengths_after { lengths.new ≡ set lengths.old i (arc_of setting row).length }
     ensures perms_after { perms.new ≡ set perms.old i (permission_of setting row) }
 {
     let arc = arc_of(setting, row);
-    arc_starts[i] = arc.start;
-    arc_lengths[i] = arc.length;
+    starts[i] = arc.start;
+    lengths[i] = arc.length;
     perms[i] = permission(setting, row);
 }
 
 // Writes the arcs and permissions of the rows of a checked table.
-fn set_arcs(
-    setting: Setting,
-    starts: &[u16],
-    ends: &[u16],
-    marks: &[u8],
-    arc_starts: &mut [u16],
-    arc_lengths: &mut [u16],
-    perms: &mut [u8],
-)
-    requires valid { Valid (table setting starts.now ends.now marks.now) }
-    requires arc_lists { ArcLists (table setting starts.now ends.now marks.now) arc_starts.old arc_lengths.old perms.old }
-    ensures { ArcsOf (table setting starts.now ends.now marks.now) arc_starts.new arc_lengths.new perms.new }
+fn set_arcs(table: Table, starts: &mut [u16], lengths: &mut [u16], perms: &mut [u8])
+    requires valid { Valid (lent table) }
+    requires room { ArcRoom (rows (lent table)) starts.old lengths.old perms.old }
+    ensures { ArcsIn (lent table.entry) starts.new lengths.new perms.new }
 {
-    let mut i: usize = 0;
-    while i < starts.len() {
-        let row = table::row_at(starts, ends, marks, i);
-        set_arc(setting, row, i, arc_starts, arc_lengths, perms);
-        i += 1;
+    for i in 0..table.rows.len() {
+        set_arc(table.setting, table.rows.row(i), i, starts, lengths, perms);
     }
 }
 
@@ -118,73 +112,40 @@ fn set_labels(perms: &[u8], labels: &mut [u8])
     requires { length labels.old ≡ length perms.now }
     ensures { labels.new ≡ map label_of perms.now }
 {
-    let mut i: usize = 0;
-    while i < perms.len() {
+    for i in 0..perms.len() {
         labels[i] = labels::permission::label_of(perms[i]);
-        i += 1;
     }
 }
 
-// Plans a checked table over lent lists for its arcs and permissions.
-fn plan_lent(
-    setting: Setting,
-    starts: &[u16],
-    ends: &[u16],
-    marks: &[u8],
-    labels: &mut [u8],
-    space: &mut [u8],
-    arc_starts: &mut [u16],
-    arc_lengths: &mut [u16],
-    perms: &mut [u8],
-) -> Answer
-    requires checked { Checked (table setting starts.now ends.now marks.now) labels.old space.old }
-    requires arc_lists { ArcLists (table setting starts.now ends.now marks.now) arc_starts.old arc_lengths.old perms.old }
-    ensures labels_after { answering result labels.new ≡ given (best_plan (table setting starts.now ends.now marks.now)) labels.old }
-    ensures space_unchanged { drop core_bytes space.new ≡ drop core_bytes space.old }
+// The count in an answer of the core, which is one more, and 0 without an assignment.
+fn count_in(best: u8) -> Option<usize>
+    ensures { result ≡ count_in best }
 {
-    set_arcs(setting, starts, ends, marks, arc_starts, arc_lengths, perms);
-    let circle = circle_of(setting);
-    let best = tracks::best_assignment(circle, arc_starts, arc_lengths, perms, space);
-    if best == 0 {
-        return refusals::refused(Refusal::NoPlan);
-    }
-    set_labels(perms, labels);
-    let count = (best - 1) as usize;
-    Answer {
-        refusal: Refusal::Accepted,
-        count,
-    }
+    best.checked_sub(1).map(usize::from)
 }
 
 // Plans a table that has passed its checks. It leaves open what the first 4,608 bytes of the working space then hold.
-// Its arrays and those of the core are in the account of docs/MEMORY.md.
-pub fn plan_checked(
-    setting: Setting,
-    starts: &[u16],
-    ends: &[u16],
-    marks: &[u8],
-    labels: &mut [u8],
-    space: &mut [u8],
-) -> Answer
-    requires { Checked (table setting starts.now ends.now marks.now) labels.old space.old }
-    ensures labels_after { answering result labels.new ≡ given (best_plan (table setting starts.now ends.now marks.now)) labels.old }
+// Its arrays and those of the core are in the account of docs/MEMORY.md. Those that count declare them too: were a closure handed them, its caller would not know what it leaves of `space`.
+pub fn plan_checked(table: Table, labels: &mut [u8], space: &mut [u8]) -> Result<usize, Refusal>
+    requires { Checked (lent table) labels.old space.old }
+    ensures labels_after { answering (answer_of result) labels.new ≡ given (best_plan (lent table.entry)) labels.old }
     ensures space_unchanged { drop core_bytes space.new ≡ drop core_bytes space.old }
 {
     let mut arc_starts = [0u16; MAX_ROWS];
     let mut arc_lengths = [0u16; MAX_ROWS];
     let mut perms = [0u8; MAX_ROWS];
-    let n = starts.len();
-    plan_lent(
-        setting,
-        starts,
-        ends,
-        marks,
-        labels,
-        space,
-        &mut arc_starts[..n],
-        &mut arc_lengths[..n],
-        &mut perms[..n],
-    )
+    let n = table.rows.len();
+    let starts = &mut arc_starts[..n];
+    let lengths = &mut arc_lengths[..n];
+    let perms = &mut perms[..n];
+    set_arcs(table, starts, lengths, perms);
+    let circle = circle_of(table.setting);
+    let best = tracks::best_assignment(circle, starts, lengths, perms, space);
+    let Some(count) = count_in(best) else {
+        return Err(Refusal::NoPlan);
+    };
+    set_labels(perms, labels);
+    Ok(count)
 }
 
 // Clears the working space as far as a call needs it.
@@ -192,161 +153,44 @@ pub fn clear_space(space: &mut [u8])
     requires { space_bytes ≤ length space.old }
     ensures { space.new ≡ replicate space_bytes 0 ++ drop space_bytes space.old }
 {
-    let mut i: usize = 0;
-    while i < SPACE_BYTES {
-        space[i] = 0;
-        i += 1;
-    }
+    space[..SPACE_BYTES].fill(0);
 }
 
-// Counts for the arcs and permissions of a checked table.
-fn count_arcs(
-    setting: Setting,
-    arc_starts: &mut [u16],
-    arc_lengths: &mut [u16],
-    perms: &mut [u8],
-    space: &mut [u8],
-) -> u8
-    requires { CountableArcs setting arc_starts.old arc_lengths.old perms.old space.old }
-    ensures count_of_arcs { CountOfArcs setting arc_starts.old arc_lengths.old perms.old result }
-    ensures space_unchanged { drop core_bytes space.new ≡ drop core_bytes space.old }
-{
-    let circle = circle_of(setting);
-    tracks::best_count(circle, arc_starts, arc_lengths, perms, space)
-}
-
-// Counts for a checked table over lent lists for its arcs and permissions.
-fn count_lent(
-    setting: Setting,
-    starts: &[u16],
-    ends: &[u16],
-    marks: &[u8],
-    space: &mut [u8],
-    arc_starts: &mut [u16],
-    arc_lengths: &mut [u16],
-    perms: &mut [u8],
-) -> u8
-    requires countable { Countable (table setting starts.now ends.now marks.now) space.old }
-    requires arc_lists { ArcLists (table setting starts.now ends.now marks.now) arc_starts.old arc_lengths.old perms.old }
-    ensures value { result ≡ count_of (best_plan (table setting starts.now ends.now marks.now)) }
-    ensures space_unchanged { drop core_bytes space.new ≡ drop core_bytes space.old }
-{
-    set_arcs(setting, starts, ends, marks, arc_starts, arc_lengths, perms);
-    count_arcs(setting, arc_starts, arc_lengths, perms, space)
-}
-
-// How many rows the best plan of a checked table hears, and one more; 0 where there is no plan. It leaves open what the first 4,608 bytes of the working space then hold.
-pub fn count_checked(
-    setting: Setting,
-    starts: &[u16],
-    ends: &[u16],
-    marks: &[u8],
-    space: &mut [u8],
-) -> u8
-    requires { Countable (table setting starts.now ends.now marks.now) space.old }
-    ensures value { result ≡ count_of (best_plan (table setting starts.now ends.now marks.now)) }
+// How many rows the best plan of a checked table hears; None without a plan. It leaves open what the first 4,608 bytes of the working space then hold.
+pub fn count_checked(table: Table, space: &mut [u8]) -> Option<usize>
+    requires { Countable (lent table) space.old }
+    ensures value { result ≡ count_of (best_plan (lent table.entry)) }
     ensures space_unchanged { drop core_bytes space.new ≡ drop core_bytes space.old }
 {
     let mut arc_starts = [0u16; MAX_ROWS];
     let mut arc_lengths = [0u16; MAX_ROWS];
     let mut perms = [0u8; MAX_ROWS];
-    let n = starts.len();
-    count_lent(
-        setting,
-        starts,
-        ends,
-        marks,
-        space,
-        &mut arc_starts[..n],
-        &mut arc_lengths[..n],
-        &mut perms[..n],
-    )
-}
-
-// Writes the arcs and permissions of the rows of a checked table, and after them those of a row more.
-fn set_arcs_with(
-    setting: Setting,
-    starts: &[u16],
-    ends: &[u16],
-    marks: &[u8],
-    row: Row,
-    arc_starts: &mut [u16],
-    arc_lengths: &mut [u16],
-    perms: &mut [u8],
-)
-    requires valid_with { ValidWith (table setting starts.now ends.now marks.now) row }
-    requires arc_lists { ArcLists (with_row (table setting starts.now ends.now marks.now) row) arc_starts.old arc_lengths.old perms.old }
-    ensures { ArcsOf (with_row (table setting starts.now ends.now marks.now) row) arc_starts.new arc_lengths.new perms.new }
-{
-    let n = starts.len();
-    set_arcs(
-        setting,
-        starts,
-        ends,
-        marks,
-        &mut arc_starts[..n],
-        &mut arc_lengths[..n],
-        &mut perms[..n],
-    );
-    set_arc(setting, row, n, arc_starts, arc_lengths, perms);
-}
-
-// Counts for a checked table with a row more over lent lists for the arcs and permissions of all its rows.
-fn count_with_lent(
-    setting: Setting,
-    starts: &[u16],
-    ends: &[u16],
-    marks: &[u8],
-    row: Row,
-    space: &mut [u8],
-    arc_starts: &mut [u16],
-    arc_lengths: &mut [u16],
-    perms: &mut [u8],
-) -> u8
-    requires countable_with { CountableWith (table setting starts.now ends.now marks.now) row space.old }
-    requires arc_lists { ArcLists (with_row (table setting starts.now ends.now marks.now) row) arc_starts.old arc_lengths.old perms.old }
-    ensures value { result ≡ count_of (best_plan (with_row (table setting starts.now ends.now marks.now) row)) }
-    ensures space_unchanged { drop core_bytes space.new ≡ drop core_bytes space.old }
-{
-    set_arcs_with(
-        setting,
-        starts,
-        ends,
-        marks,
-        row,
-        arc_starts,
-        arc_lengths,
-        perms,
-    );
-    count_arcs(setting, arc_starts, arc_lengths, perms, space)
+    let n = table.rows.len();
+    let starts = &mut arc_starts[..n];
+    let lengths = &mut arc_lengths[..n];
+    let perms = &mut perms[..n];
+    set_arcs(table, starts, lengths, perms);
+    let circle = circle_of(table.setting);
+    let best = tracks::best_count(circle, starts, lengths, perms, space);
+    count_in(best)
 }
 
 // The same of a checked table with a row more, which has passed its checks too. The table itself stays as it is lent.
-pub fn count_with(
-    setting: Setting,
-    starts: &[u16],
-    ends: &[u16],
-    marks: &[u8],
-    row: Row,
-    space: &mut [u8],
-) -> u8
-    requires { CountableWith (table setting starts.now ends.now marks.now) row space.old }
-    ensures value { result ≡ count_of (best_plan (with_row (table setting starts.now ends.now marks.now) row)) }
+pub fn count_with(table: Table, row: Row, space: &mut [u8]) -> Option<usize>
+    requires { CountableWith (lent table) row space.old }
+    ensures value { result ≡ count_of (best_plan (with_row (lent table.entry) row)) }
     ensures space_unchanged { drop core_bytes space.new ≡ drop core_bytes space.old }
 {
     let mut arc_starts = [0u16; MAX_ROWS];
     let mut arc_lengths = [0u16; MAX_ROWS];
     let mut perms = [0u8; MAX_ROWS];
-    let n = starts.len() + 1;
-    count_with_lent(
-        setting,
-        starts,
-        ends,
-        marks,
-        row,
-        space,
-        &mut arc_starts[..n],
-        &mut arc_lengths[..n],
-        &mut perms[..n],
-    )
+    let n = table.rows.len();
+    let starts = &mut arc_starts[..n + 1];
+    let lengths = &mut arc_lengths[..n + 1];
+    let perms = &mut perms[..n + 1];
+    set_arcs(table, starts, lengths, perms);
+    set_arc(table.setting, row, n, starts, lengths, perms);
+    let circle = circle_of(table.setting);
+    let best = tracks::best_count(circle, starts, lengths, perms, space);
+    count_in(best)
 }

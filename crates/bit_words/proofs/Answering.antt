@@ -8,13 +8,12 @@ use lib.Count.{ones}
 use borrow.Author.Tests.{eq-eqb, ne_eqb, le-leb, lt-leb}
 use Rattle.basics.specs.Limits.{max_rows}
 use Rattle.labels.specs.Labels.{heard}
+use Rattle.std.specs.Prelude.{Err}
 use Rattle.refusals.specs.declared.Refusal.{Refusal}
-use Rattle.refusals.specs.declared.Refusal.TheVariants.{Accepted, Rows, NotPlan}
-use Rattle.refusals.specs.Refusals.{number_of, answered, passes}
-use Rattle.refusals.proofs.Refusals.{Passed}
+use Rattle.refusals.specs.Refusals.{number_of, answered, passes, Accepted, Rows, NotPlan, Outcome}
+use Rattle.refusals.proofs.Refusals.{Passed, err_refuses}
 use Rattle.table.specs.Tables.{Table}
-use Rattle.bit_words.specs.declared.Word.TheVariants.{Heard, Receiver, Must}
-use Rattle.bit_words.specs.Words.{word_for, are_labels, labels_refusal, label_words, words_call, are_words, words_refusal, labels_from, labels_given, labels_call, must_word, must_call}
+use Rattle.bit_words.specs.Words.{Heard, Receiver, Must, word_for, are_labels, labels_refusal, label_words, words_call, are_words, words_refusal, labels_from, labels_given, labels_call, must_word, must_call}
 use Rattle.bit_words.specs.Clashes.{clash_refusal, clash_given, clash_call, clash_words_of}
 use Rattle.bit_words.proofs.Carrying.{labels_iff, carried_iff, carried_below, labels_from_words, heard_back, ones_heard}
 
@@ -69,13 +68,13 @@ module _ (marks : List ℕ) where
 
 -- ---- clash words
 
-module _ (t : Table) (before : List ℕ) {r : Refusal} (e : r ≡ clash_refusal t (length before)) where
+module _ (t : Table) (before : List ℕ) {r : Outcome} (e : r ≡ clash_refusal t (length before)) where
   given : {words : List ℕ} → words ≡ cond (passes r) (clash_words_of t) before → clash_given r words ≡ clash_call t before
   unfolding clash_call
-  given w = ap₂ clash_given e (w ∙ ap (λ (x : Refusal). cond (passes x) (clash_words_of t) before) e)
-
-  pub clash_refused : (number_of r ≡ 0 → ⊥) → clash_given r before ≡ clash_call t before
-  clash_refused n = given (rw (ne_eqb (number_of r) 0 n) refl)
+  given w = ap₂ clash_given e (w ∙ ap (λ (x : Outcome). cond (passes x) (clash_words_of t) before) e)
 
   pub clash_made : Passed r → {words : List ℕ} → words ≡ clash_words_of t → clash_given r words ≡ clash_call t before
   clash_made p w = given (w ∙ rw (eq-eqb (number_of r) 0 p) refl)
+
+pub clash_refused : (t : Table) (before : List ℕ) {e : Refusal} → Err e ≡ clash_refusal t (length before) → clash_given (Err e) before ≡ clash_call t before
+clash_refused t before {e} q = given t before q (rw (ne_eqb (number_of (Err e)) 0 (err_refuses (Err e) refl)) refl)

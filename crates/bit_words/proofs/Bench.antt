@@ -9,9 +9,7 @@ use Rattle.window.specs.declared.Kind.TheVariants.{Round, Run}
 use Rattle.window.specs.declared.Row.{Row}
 use Rattle.window.specs.Rows.{row, starts_of, ends_of}
 use Rattle.window.specs.Hours.{hours_from, no_hours}
-use Rattle.refusals.specs.declared.Refusal.{Refusal}
-use Rattle.refusals.specs.declared.Refusal.TheVariants.{Accepted, Lists, Rows, Ticks, Gap, Window, NotPlan}
-use Rattle.refusals.specs.Refusals.{answered}
+use Rattle.refusals.specs.Refusals.{answered, Accepted, Lists, Rows, Ticks, Gap, Window, NotPlan, Outcome}
 use Rattle.table.specs.Tables.{setting_of}
 use Rattle.bit_words.specs.Bits.{bit}
 use Rattle.bit_words.specs.Words.{label_words, words_call, labels_given, labels_call, must_word, must_call}
@@ -33,7 +31,7 @@ thirteen = (refl, refl, refl, refl, refl, refl, refl)
 -- ---- labels to words
 
 -- these labels have these words
-abbrev Words : List ℕ → Refusal → ℕ → ℕ → ℕ → Type 0
+abbrev Words : List ℕ → Outcome → ℕ → ℕ → ℕ → Type 0
 Words labels refusal count heard receiver = words_call labels ≡ label_words refusal count heard receiver
 
 -- the labels of P2, 1 2 0 1: rows 0, 1 and 3 are heard, row 1 by receiver 2
@@ -90,7 +88,7 @@ unfolding labels_call
 labels = (refl, refl, refl, refl, refl, refl, refl, refl, refl)
 
 -- these words are refused, and the list is left
-abbrev Left : ℕ → ℕ → ℕ → Refusal → Type 0
+abbrev Left : ℕ → ℕ → ℕ → Outcome → Type 0
 Left n heard receiver refusal = labels_call heard receiver (sevens n) ≡ labels_given (answered refusal 0) (sevens n)
 
 -- "a receiver bit of a row not heard, or a one from the row count up"; "after 2 for over 64 rows"
@@ -123,7 +121,7 @@ musts = (refl, refl, refl, refl, refl)
 -- ---- clash words
 
 -- the windows of these rows, in a round or a run of R ticks with the gap g, have these words
-abbrev Clashes : Kind → ℕ → ℕ → List Row → List ℕ → List ℕ → Refusal → Type 0
+abbrev Clashes : Kind → ℕ → ℕ → List Row → List ℕ → List ℕ → Outcome → Type 0
 Clashes kind R g rows before words refusal = clash_call (windows_of (setting_of kind R g no_hours) (starts_of rows) (ends_of rows)) before ≡ clash_given refusal words
 
 -- P2 of paper 01
@@ -171,7 +169,7 @@ unfolding clash_call list_of
 full = refl
 
 -- these windows are refused, and the list of words is left
-abbrev ClashLeft : Kind → ℕ → ℕ → List Row → ℕ → Refusal → Type 0
+abbrev ClashLeft : Kind → ℕ → ℕ → List Row → ℕ → Outcome → Type 0
 ClashLeft kind R g rows n refusal = Clashes kind R g rows (sevens n) (sevens n) refusal
 
 -- both sides of each limit: 1 of the words, 2, 4, 14 and 6

@@ -13,8 +13,7 @@ use lib.Bits.{bit_and, bit_or, and_step, and_shr, or_shifted_r}
 use lib.Count.{ones, ones_cat}
 use borrow.Author.Tests.{eq-eqb, eqb-true, lt-ltb, ltb-true}
 use Rattle.basics.proofs.Tests.{le_or_lt, bool_ext}
-use Rattle.bit_words.specs.Bits.{word_bits, bit, is_set, word_of}
-use Rattle.bit_words.specs.Lent.{BitAbove}
+use Rattle.bit_words.specs.Bits.{bit, is_set, word_of}
 
 -- a bit is 0 or 1
 pub bit_below : (x i : ℕ) → bit x i < 2
@@ -58,16 +57,17 @@ placed : (b : Bool) (w n : ℕ) → w + cond b (2 ^ n) 0 ≡ cond b 1 0 * 2 ^ n 
 placed true w n = omega (arith, one-mul (2 ^ n))
 placed false w n = omega (arith, zero-mul (2 ^ n))
 
+-- and it has no bit from the next place on
+pub below_more : (b : Bool) (n : ℕ) {w r : ℕ} → w < 2 ^ n → r ≡ w + cond b (2 ^ n) 0 → r < 2 ^ (n + 1)
+below_more true n h e = omega (arith, pow-suc 2 n, ap (λ (k : ℕ). 2 ^ k) (add-one n))
+below_more false n h e = omega (arith, pow-suc 2 n, ap (λ (k : ℕ). 2 ^ k) (add-one n))
+
 module _ (test : ℕ → Bool) where
   -- "In every word the bits from the row count up are zero": it is below 2 to the row count
   pub word_below : (n : ℕ) → word_of n test < 2 ^ n
   unfolding word_of
   word_below zero = omega arith
-  word_below (suc n) = go (test n) (word_below n)
-    where
-      go : (b : Bool) {w : ℕ} → w < 2 ^ n → w + cond b (2 ^ n) 0 < 2 ^ suc n
-      go true h = omega (arith, pow-suc 2 n)
-      go false h = omega (arith, pow-suc 2 n)
+  word_below (suc n) = let h = below_more (test n) n (word_below n) refl in rw add-one at h
 
   pub word_above : (n i : ℕ) → n ≤ i → bit (word_of n test) i ≡ 0
   word_above n i h = bit_none i (word_below n) h
@@ -110,10 +110,6 @@ module _ (test : ℕ → Bool) where
   pub word_more : (i : ℕ) {w r : ℕ} {b : Bool} → w ≡ word_of i test → b ≡ test i → r ≡ w + cond b (2 ^ i) 0 → r ≡ word_of (i + 1) test
   unfolding word_of
   word_more i {w} {r} {b} e f g = g ∙ ap₂ (λ (x : ℕ) (y : Bool). x + cond y (2 ^ i) 0) e f ∙ ap (λ (n : ℕ). word_of n test) (sym (add-one i))
-
-  -- bit i is free
-  pub word_free : (i : ℕ) {w : ℕ} → w ≡ word_of i test → i < word_bits → BitAbove w i
-  word_free i e h = record { below = subst (λ (x : ℕ). x < 2 ^ i) (sym e) (word_below i); inside = h }
 
 -- words of tests that say the same
 pub word_same : (n : ℕ) {p q : ℕ → Bool} → ((i : ℕ) → i < n → p i ≡ q i) → word_of n p ≡ word_of n q

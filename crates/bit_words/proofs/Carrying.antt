@@ -3,24 +3,24 @@ use Prim.Native.Nat.{ℕ, zero, suc, ◌+◌, ◌^◌, ◌≤◌, ◌<◌, min}
 use mathlib.Core.Path.{◌≡◌, refl, sym, ap, ap₂, ◌∙◌, subst}
 use mathlib.Core.Logic.Iff
 use mathlib.Core.Logic.{◌↔◌, ⊎_elim}
-use mathlib.Core.Bool.{Bool, true, false, cond, not, false≢true}
+use mathlib.Core.Bool.{Bool, true, false, cond, not, ◌&&◌, and-false, false≢true}
 use mathlib.Core.List.{List, [], ◌∷◌}
 use native.Mathlib.Omega.{arith}
 use native.Mathlib.Nat.{lt_of_le_of_lt}
-use lib.Dec.{eqb, ltb}
+use lib.Dec.{leb, eqb, ltb}
 use lib.ListN.{length}
+use Rattle.std.specs.List.{list_all}
 use lib.Seq.{ext_get_or}
 use lib.Bits.{bit_and, and_lt, and_le_l}
 use lib.Count.{ones}
 use borrow.Author.Tests.{eq-eqb, ne_eqb, lt-ltb, ltb-true}
 use Rattle.basics.specs.Lists.{at, list_of}
+use Rattle.basics.specs.Tests.{every}
 use Rattle.basics.proofs.Tests.{leb_iff, eqb_iff, not_iff, and_iff, imp_iff, every_iff, bool_ext, le_or_lt}
 use Rattle.basics.proofs.Lists.{length_list, at_list}
 use Rattle.labels.specs.Labels.{hears, heard}
-use Rattle.bit_words.specs.declared.Word.{Word}
-use Rattle.bit_words.specs.declared.Word.TheVariants.{Heard, Receiver}
 use Rattle.bit_words.specs.Bits.{bit, is_set, word_of}
-use Rattle.bit_words.specs.Words.{tells, word_for, are_labels, label_by, are_words, labels_from}
+use Rattle.bit_words.specs.Words.{Word, Heard, Receiver, tells, word_for, are_labels, label_by, are_words, labels_from}
 use Rattle.bit_words.proofs.BitLaws.{bit_below, bit_none, word_above, word_iff, word_bit, word_same, word_whole, word_ext, below_of_bits, and_bit, ones_front}
 
 -- ---- labels
@@ -31,6 +31,21 @@ Labels labels = (i : ℕ) → i < length labels → at labels i ≤ 2
 
 pub labels_iff : (labels : List ℕ) → (are_labels labels ≡ true) ↔ Labels labels
 labels_iff labels = every_iff (length labels) (λ i h. leb_iff (at labels i) 2)
+
+-- the test of the code: of each label in the list's order
+every_front : (n : ℕ) (p : ℕ → Bool) → (p 0 && every n (λ i. p (suc i))) ≡ every (suc n) p
+unfolding every
+every_front zero p = refl
+every_front (suc n) p = swap (p 0) (p (suc n)) (every n (λ i. p (suc i))) ∙ ap (λ (b : Bool). p (suc n) && b) (every_front n p)
+  where
+    swap : (a b c : Bool) → (a && (b && c)) ≡ (b && (a && c))
+    swap true b c = refl
+    swap false b c = sym (and-false b)
+
+pub all_labels : (labels : List ℕ) → list_all (λ x. leb x 2) labels ≡ are_labels labels
+unfolding every
+all_labels [] = refl
+all_labels (x ∷ labels) = ap (λ (b : Bool). leb x 2 && b) (all_labels labels) ∙ every_front (length labels) (λ i. leb (at (x ∷ labels) i) 2)
 
 -- ---- words
 

@@ -18,19 +18,14 @@ use Rattle.basics.proofs.Tests.{eqb_iff, not_iff, bool_ext}
 use Rattle.labels.specs.Labels.{heard}
 use Rattle.marks.specs.Marks.{Must}
 use Rattle.marks.proofs.Allowing.{must_iff}
-use Rattle.refusals.specs.declared.Refusal.{Refusal}
-use Rattle.refusals.specs.declared.Refusal.TheVariants.{Accepted, Rows, NotPlan}
-use Rattle.refusals.specs.Refusals.{number_of, answered, asked, passes}
+use Rattle.refusals.specs.Refusals.{number_of, answered, asked, passes, Accepted, Rows, NotPlan, Outcome}
 use Rattle.refusals.proofs.Refusals.{Passed, then_passed, asked_passed}
 use Rattle.table.specs.declared.Setting.{Setting}
 use Rattle.table.specs.Tables.{Table, setting_of, rows, row_at, Allowed, Clash, Plan, clashes}
 use Rattle.table.specs.Checks.{row_refusal, rows_looked}
 use Rattle.table.proofs.Plans.{clash_sym}
-use Rattle.bit_words.specs.declared.Word.{Word}
-use Rattle.bit_words.specs.declared.Word.TheVariants.{Heard, Receiver, Must as MustBit}
-use Rattle.bit_words.specs.declared.LabelWords.{LabelWords}
 use Rattle.bit_words.specs.Bits.{bit}
-use Rattle.bit_words.specs.Words.{tells, word_for, are_labels, labels_refusal, label_words, words_call, are_words, words_refusal, labels_from, LabelsCalled, labels_given, labels_call}
+use Rattle.bit_words.specs.Words.{Word, Heard, Receiver, Must as MustBit, LabelWords, tells, word_for, are_labels, labels_refusal, label_words, words_call, are_words, words_refusal, labels_from, LabelsCalled, labels_given, labels_call}
 use Rattle.bit_words.specs.Clashes.{windows_of, ClashWords, is_clash, clash_word, clash_refusal, clash_call}
 use Rattle.bit_words.proofs.BitLaws.{word_below, word_above, word_iff, word_bit}
 use Rattle.bit_words.proofs.Carrying.{Labels, labels_iff, Carried, zero_bit, carried_iff, carried_below, labels_back, words_carried, length_from, labels_from_words, heard_back, receiver_back, not_zero, ones_not_zero, ones_heard}
@@ -64,7 +59,7 @@ zeros_above word entries i h = word_above (λ k. tells word (at entries k)) (len
 -- ---- which labels are carried
 
 -- a call that passes has passed its check: a refused one ends in what the check says
-check_passed : {A : Type 0} (end : A → Refusal) (r : Refusal) (given refused : A) → end refused ≡ r → Passed (end (cond (passes r) given refused)) → Passed r
+check_passed : {A : Type 0} (end : A → Outcome) (r : Outcome) (given refused : A) → end refused ≡ r → Passed (end (cond (passes r) given refused)) → Passed r
 check_passed {A} end r given refused e = go (passes r) refl
   where
     go : (x : Bool) → passes r ≡ x → Passed (end (cond x given refused)) → Passed r

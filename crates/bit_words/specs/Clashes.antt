@@ -2,8 +2,7 @@
 -- and what a call gives, whole, on every input.
 use Rattle.std.specs.Prelude.{ℕ, ◌<◌, ◌≡◌, ◌≢◌, ◌↔◌, Bool, cond, not, ◌&&◌, List, eqb, length, replicate}
 use Rattle.basics.specs.Lists.{at, list_of}
-use Rattle.refusals.specs.declared.Refusal.{Refusal}
-use Rattle.refusals.specs.Refusals.{passes, ◌then◌}
+use Rattle.refusals.specs.Refusals.{passes, ◌then◌, Outcome}
 use Rattle.table.specs.declared.Setting.{Setting}
 use Rattle.table.specs.Tables.{Table, table, rows, row_at, Clash, clashes}
 use Rattle.table.specs.Checks.{lengths_refusal, ticks_refusal, gap_refusal, rows_looked}
@@ -36,7 +35,7 @@ abbrev pub clash_words_of : Table → List ℕ
 clash_words_of t = list_of (rows t) (clash_word t)
 
 -- 1 of starts, ends and a list of so many words, 2, 4, 14, and then the rows from 0, each for 6
-unfoldable pub clash_refusal : Table → ℕ → Refusal
+unfoldable pub clash_refusal : Table → ℕ → Outcome
 unfolding lengths_refusal ticks_refusal gap_refusal rows_looked
 clash_refusal t words =
     lengths_refusal (rows t) (length t.ends) (length t.marks) words
@@ -46,10 +45,10 @@ clash_refusal t words =
 
 -- a call's refusal, and what the list of words then holds
 pub record ClashCalled : Type 0 where
-  pub refusal : Refusal
+  pub refusal : Outcome
   pub words : List ℕ
 
-abbrev pub clash_given : Refusal → List ℕ → ClashCalled
+abbrev pub clash_given : Outcome → List ℕ → ClashCalled
 clash_given refusal words = record { refusal = refusal; words = words }
 
 -- THE RIGHT ANSWER of a call, for a list of words that held `before`; a refusal writes nothing

@@ -1,21 +1,22 @@
 -- Believed: Labels and marks as words (request 8 of paper 02): which bit says what, and what each call gives, whole, on every input.
-use Rattle.std.specs.Prelude.{ℕ, Bool, cond, not, ◌&&◌, List, leb, eqb, length}
+use Rattle.std.specs.Prelude.{ℕ, Bool, cond, not, ◌&&◌, List, leb, eqb, length, Result, Ok, Err}
 use Rattle.basics.specs.Limits.{max_rows}
 use Rattle.basics.specs.Lists.{at, list_of}
 use Rattle.basics.specs.Tests.{◌⇒◌, every}
 use Rattle.labels.specs.Labels.{heard}
 use Rattle.marks.specs.Marks.{is_must}
 use Rattle.refusals.specs.declared.Refusal.{Refusal}
-use Rattle.refusals.specs.declared.Refusal.TheVariants.{Accepted, Rows, NotPlan}
-use Rattle.refusals.specs.declared.Answer.{Answer}
-use Rattle.refusals.specs.Refusals.{answered, asked, passes, ◌then◌}
-use Rattle.bit_words.specs.declared.Word.{Word}
-use Rattle.bit_words.specs.declared.Word.TheVariants.{Heard, Receiver, Must}
-use Rattle.bit_words.specs.declared.LabelWords.{LabelWords}
-use Rattle.bit_words.specs.declared.MustWord.{MustWord}
+use Rattle.refusals.specs.Refusals.{answered, asked, passes, ◌then◌, Accepted, Rows, NotPlan, Answer, Outcome}
+use Rattle.bit_words.specs.declared.LabelWords.{LabelWords as Made}
 use Rattle.bit_words.specs.Bits.{word_bits, is_set, word_of}
 
 -- ---- which bit says what
+
+-- the words that are made of a list with a label or a mark for each row
+pub data Word : Type 0 where
+  Heard : Word
+  Receiver : Word
+  Must : Word
 
 -- "Keep heard, receiver and must as 64-bit words": whether a word's bit is 1 for a row with this label or, in the must word, this mark. "The receiver bit is 1 for receiver 2, and 0
 -- for a row not heard; the must bit is 1 for marks 1, 3 and 5."
@@ -35,12 +36,24 @@ abbrev pub are_labels : List ℕ → Bool
 are_labels labels = every (length labels) (λ i. leb (at labels i) 2)
 
 -- "9, after 2 for over 64 rows"
-unfoldable pub labels_refusal : List ℕ → Refusal
+unfoldable pub labels_refusal : List ℕ → Outcome
 unfolding every
 labels_refusal labels = asked (leb (length labels) max_rows) Rows then asked (are_labels labels) NotPlan
 
-abbrev pub label_words : Refusal → ℕ → ℕ → ℕ → LabelWords
+-- what labels are as words: the refusal, the number heard, and the two words
+pub record LabelWords : Type 0 where
+  pub refusal : Outcome
+  pub count : ℕ
+  pub heard : ℕ
+  pub receiver : ℕ
+
+abbrev pub label_words : Outcome → ℕ → ℕ → ℕ → LabelWords
 label_words refusal count heard receiver = record { refusal = refusal; count = count; heard = heard; receiver = receiver }
+
+-- what a call reports that gives the words or a refusal
+abbrev pub words_given : Result Made Refusal → LabelWords
+words_given (Ok w) = label_words Accepted w.count w.heard w.receiver
+words_given (Err r) = label_words (Err r) 0 0 0
 
 -- THE RIGHT ANSWER of a call that makes words of labels: the number heard and the two words; a refusal "gives words of 0"
 unfoldable pub words_call : List ℕ → LabelWords
@@ -64,7 +77,7 @@ are_words rows heard receiver =
     (λ i. (is_set receiver i ⇒ is_set heard i) && (leb rows i ⇒ (not (is_set heard i) && not (is_set receiver i))))
 
 -- "9, after 2 for over 64 rows"
-unfoldable pub words_refusal : ℕ → ℕ → ℕ → Refusal
+unfoldable pub words_refusal : ℕ → ℕ → ℕ → Outcome
 unfolding are_words
 words_refusal rows heard receiver = asked (leb rows max_rows) Rows then asked (are_words rows heard receiver) NotPlan
 
@@ -91,8 +104,18 @@ labels_call heard' receiver before =
 
 -- ---- marks
 
-abbrev pub must_word : Refusal → ℕ → MustWord
+-- what marks are as a word, and the refusal
+pub record MustWord : Type 0 where
+  pub refusal : Outcome
+  pub word : ℕ
+
+abbrev pub must_word : Outcome → ℕ → MustWord
 must_word refusal word = record { refusal = refusal; word = word }
+
+-- what a call reports that gives the word or a refusal
+abbrev pub must_given : Result ℕ Refusal → MustWord
+must_given (Ok w) = must_word Accepted w
+must_given (Err r) = must_word (Err r) 0
 
 -- THE RIGHT ANSWER of a call that makes the must word of marks: "2 for over 64 rows", with a word of 0. "Marks are not converted back."
 unfoldable pub must_call : List ℕ → MustWord

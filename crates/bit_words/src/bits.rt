@@ -1,18 +1,31 @@
-// Single bits of a word of 64 bits.
-ghost use Rattle.std.specs.Prelude.{◌≡◌, cond, ◌+◌, ◌^◌, ◌≤◌, ◌<◌, ltb};
+// Words of 64 bits: a word with a bit for each row, and single bits of a word.
+ghost use Rattle.std.specs.Prelude.{◌≡◌, ℕ, cond, ◌+◌, ◌^◌, ◌≤◌, ◌<◌, ltb};
 ghost use Rattle.std.specs.Int.Count.{ones};
 ghost use Rattle.bit_words.specs.Bits.{word_bits, is_set};
-ghost use Rattle.bit_words.specs.Lent.{BitAbove};
+ghost use Rattle.bit_words.specs.Lent.{BitAbove, WordBy};
 
 // "64-bit words".
 const WORD_BITS: usize = 64;
 
 // A word with bit i set where it is asked for. The word has no bit from i on.
-pub fn with_bit(word: u64, i: usize, set: bool) -> u64
+fn with_bit(word: u64, i: usize, set: bool) -> u64
     requires { BitAbove word i }
     ensures { result ≡ word + cond set (2 ^ i) 0 }
 {
     if set { word | (1u64 << i) } else { word }
+}
+
+// The word of n rows, with bit i set for each row i of which the test holds.
+pub fn word_of<F: Fn(usize) -> bool>(n: usize, test: F) -> u64
+    requires few { n ≤ word_bits }
+    requires callable { (i : ℕ) → i < n → F.pre test i }
+    ensures { WordBy (F.post test) n result }
+{
+    let mut word = 0;
+    for i in 0..n {
+        word = with_bit(word, i, test(i));
+    }
+    word
 }
 
 // Whether bit i is 1.

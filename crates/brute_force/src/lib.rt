@@ -7,26 +7,15 @@ pub mod plans;
 pub mod random;
 pub mod windows;
 
-use clashes::Gap;
 use plans::Found;
-use windows::Kind;
+use windows::{Day, Row};
 
-// The best plan of the first `rows` rows of a table of windows, in a run or a round of `ticks` ticks, with `gap` ticks between two windows of a receiver.
-pub fn best_plan(
-    kind: Kind,
-    ticks: u16,
-    gap: u16,
-    rows: usize,
-    starts: &[u16; 8],
-    ends: &[u16; 8],
-    marks: &[u8; 8],
-    hours: [[u16; 2]; 2],
-) -> Found {
-    let sets = windows::window_sets(kind, ticks, starts, ends);
-    let overlaps = clashes::overlaps(&sets);
-    let clashes = clashes::with_gap(&overlaps, Gap { kind, ticks, gap }, starts, ends);
-    let permissions = windows::window_permissions(kind, starts, ends, marks, hours);
-    plans::search(rows, &clashes, &permissions)
+// The best plan of the first `count` of these rows.
+pub fn best_plan(day: Day, count: usize, rows: &[Row; 8], hours: [[u16; 2]; 2]) -> Found {
+    let overlaps = clashes::overlaps(&day.sets_of(rows));
+    let clashes = clashes::with_gap(&overlaps, day, rows);
+    let permissions = windows::permissions(day.kind, rows, hours);
+    plans::search(count, &clashes, &permissions)
 }
 
 // The best assignment of the first `rows` arcs of a circle of `ticks` ticks under permissions.

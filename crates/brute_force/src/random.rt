@@ -18,10 +18,7 @@ pub fn below(state: u64, limit: u16) -> u16
 
 // The same of any limit: 0 if the limit is 0.
 pub fn below_any(state: u64, limit: u16) -> u16 {
-    if limit == 0 {
-        return 0;
-    }
-    below(state, limit)
+    below(state, limit.max(1))
 }
 
 // The same from the lower half of a state.
@@ -31,5 +28,5 @@ pub fn below_too(state: u64, limit: u16) -> u16 {
 
 // One of the `count` numbers from `low` on.
 pub fn from(state: u64, low: u16, count: u16) -> u16 {
-    std::num::wrapping_add_u16(low, below_any(state, count))
+    low.wrapping_add(below_any(state, count))
 }

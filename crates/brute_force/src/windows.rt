@@ -1,33 +1,54 @@
 // Which ticks a window covers, and which labels its row may have, as paper 01 and requests 2 and 3 of paper 02 say it.
 // A set of ticks is a number whose bit t says that tick t, below 64, is in it.
 
-#[derive(Clone, Copy)]
+// The brute force's own: `window::Kind` belongs to the product, which is compared with what stands here.
+#[derive(Clone, Copy, Debug, PartialEq, Eq)]
 pub enum Kind {
     Round,
     Run,
 }
 
+// A run or a round of `ticks` ticks, where a receiver needs `gap` ticks between two windows.
+#[derive(Clone, Copy)]
+pub struct Day {
+    pub kind: Kind,
+    pub ticks: u16,
+    pub gap: u16,
+}
+
+#[derive(Clone, Copy)]
+pub struct Window {
+    pub start: u16,
+    pub end: u16,
+}
+
+#[derive(Clone, Copy)]
+pub struct Row {
+    pub window: Window,
+    pub mark: u8,
+}
+
 // The set of one tick.
 fn one(tick: u16) -> u64 {
-    1u64 << (tick % 64)
+    1 << (tick % 64)
 }
 
 // The tick after `tick`, "going from R-1 to 0".
 pub fn after(ticks: u16, tick: u16) -> u16 {
-    let next = std::num::wrapping_add_u16(tick, 1);
+    let next = tick.wrapping_add(1);
     if next < ticks { next } else { 0 }
 }
 
 // "The window covers start, start+1 and so on, going from R-1 to 0, up to the tick before end"; "start equal to end now covers every tick" (request 3).
 // So the start is covered, and the walk ends where it comes to end after at least one step, which is within one turn.
 pub fn round_set(ticks: u16, start: u16, end: u16) -> u64 {
-    let mut set: u64 = 0;
+    let mut set = 0;
     let mut tick = start;
-    for step in 0..ticks {
-        set = set | one(tick);
+    for _ in 0..ticks {
+        set |= one(tick);
         tick = after(ticks, tick);
         if tick == end {
-            return set;
+            break;
         }
     }
     set
@@ -35,45 +56,47 @@ pub fn round_set(ticks: u16, start: u16, end: u16) -> u64 {
 
 // "The window covers start to end-1."
 pub fn run_set(start: u16, end: u16) -> u64 {
-    let mut set: u64 = 0;
-    for tick in start..end {
-        set = set | one(tick);
-    }
-    set
+    (start..end).fold(0, |set, tick| set | one(tick))
 }
 
 // The arc of `length` ticks from `start` on, on a circle of `ticks` ticks.
-pub fn arc_set(ticks: u16, start: u16, length: u16) -> u64 {
-    let mut set: u64 = 0;
+fn arc_set(ticks: u16, start: u16, length: u16) -> u64 {
+    let mut set = 0;
     let mut tick = start;
-    for step in 0..length {
-        set = set | one(tick);
+    for _ in 0..length {
+        set |= one(tick);
         tick = after(ticks, tick);
     }
     set
 }
 
-fn window_set(kind: Kind, ticks: u16, start: u16, end: u16) -> u64 {
-    match kind {
-        Kind::Round => round_set(ticks, start, end),
-        Kind::Run => run_set(start, end),
+impl Day {
+    // The ticks that a window covers.
+    pub fn set_of(self, w: Window) -> u64 {
+        match self.kind {
+            Kind::Round => round_set(self.ticks, w.start, w.end),
+            Kind::Run => run_set(w.start, w.end),
+        }
     }
-}
 
-pub fn window_sets(kind: Kind, ticks: u16, starts: &[u16; 8], ends: &[u16; 8]) -> [u64; 8] {
-    let mut sets = [0u64; 8];
-    for i in 0..8 {
-        sets[i] = window_set(kind, ticks, starts[i], ends[i]);
+    pub fn sets_of(self, rows: &[Row; 8]) -> [u64; 8] {
+        rows.map(|row| self.set_of(row.window))
     }
-    sets
 }
 
 pub fn arc_sets(ticks: u16, starts: &[u16; 8], lengths: &[u16; 8]) -> [u64; 8] {
-    let mut sets = [0u64; 8];
-    for i in 0..8 {
-        sets[i] = arc_set(ticks, starts[i], lengths[i]);
-    }
-    sets
+    std::array::from_fn(|i| arc_set(ticks, starts[i], lengths[i]))
+}
+
+// The rows of a call's lists.
+pub fn rows_of(starts: &[u16; 8], ends: &[u16; 8], marks: &[u8; 8]) -> [Row; 8] {
+    std::array::from_fn(|i| Row {
+        window: Window {
+            start: starts[i],
+            end: ends[i],
+        },
+        mark: marks[i],
+    })
 }
 
 // The labels that a mark leaves a row, as bits: bit 0 for not heard, bit 1 for receiver 1, bit 2 for receiver 2.
@@ -91,41 +114,27 @@ fn marked(mark: u8) -> u8 {
 }
 
 // "A receiver can take a window only if p <= start and end <= q": then `receiver`, its bit, is permitted.
-fn taken(opening: u16, closing: u16, start: u16, end: u16, receiver: u8) -> u8 {
-    if opening <= start {
-        if end <= closing {
-            return receiver;
-        }
+fn taken([opening, closing]: [u16; 2], w: Window, receiver: u8) -> u8 {
+    if opening <= w.start && w.end <= closing {
+        receiver
+    } else {
+        0
     }
-    0
 }
 
 // The receivers that can take a window, by their bits. "In a round both receivers are always open."
-fn receivers(kind: Kind, start: u16, end: u16, hours: [[u16; 2]; 2]) -> u8 {
+fn receivers(kind: Kind, w: Window, [first, second]: [[u16; 2]; 2]) -> u8 {
     match kind {
         Kind::Round => 6,
-        Kind::Run => {
-            taken(hours[0][0], hours[0][1], start, end, 2)
-                | taken(hours[1][0], hours[1][1], start, end, 4)
-        }
+        Kind::Run => taken(first, w, 2) | taken(second, w, 4),
     }
 }
 
 // A row's permitted labels: what its mark leaves it, of not being heard and the receivers that can take its window.
-pub fn permission(kind: Kind, start: u16, end: u16, mark: u8, hours: [[u16; 2]; 2]) -> u8 {
-    marked(mark) & (1 | receivers(kind, start, end, hours))
+fn permission(kind: Kind, row: Row, hours: [[u16; 2]; 2]) -> u8 {
+    marked(row.mark) & (1 | receivers(kind, row.window, hours))
 }
 
-pub fn window_permissions(
-    kind: Kind,
-    starts: &[u16; 8],
-    ends: &[u16; 8],
-    marks: &[u8; 8],
-    hours: [[u16; 2]; 2],
-) -> [u8; 8] {
-    let mut permissions = [0u8; 8];
-    for i in 0..8 {
-        permissions[i] = permission(kind, starts[i], ends[i], marks[i], hours);
-    }
-    permissions
+pub fn permissions(kind: Kind, rows: &[Row; 8], hours: [[u16; 2]; 2]) -> [u8; 8] {
+    rows.map(|row| permission(kind, row, hours))
 }

@@ -1,34 +1,44 @@
 -- What the parts of a call report is what `candidates_call` yields: a refusal changes nothing, and the working space is cleared where planning the table clears it.
-use Prim.Native.Nat.{ℕ, ◌+◌, ◌≤◌, ◌<◌}
+use Prim.Native.Nat.{ℕ, ◌+◌, ◌≤◌}
 use mathlib.Core.Path.{◌≡◌, refl, sym, ap, ◌∙◌}
-use mathlib.Core.Bool.{Bool, true, false, cond, ◌&&◌}
+use mathlib.Core.Bool.{Bool, true, false, cond, not, ◌&&◌}
 use mathlib.Core.List.{List, []}
 use mathlib.Core.Option.{Option, none, some}
 use native.Mathlib.Omega.{arith}
 use lib.Dec.{leb, eqb}
 use lib.ListN.{length}
-use borrow.Author.Tests.{eq-eqb, ne_eqb, eqb-true}
+use borrow.Author.Tests.{eq-eqb, ne_eqb, eqb-true, leb-true}
+use Rattle.std.specs.Prelude.{Option as Maybe, Some, None, is_some, is_err}
 use Rattle.basics.specs.Limits.{max_rows}
 use Rattle.basics.proofs.Tests.{eqb_iff, leb_iff, and_iff}
-use Rattle.refusals.specs.declared.Refusal.{Refusal}
-use Rattle.refusals.specs.declared.Refusal.TheVariants.{Accepted, Space, NoPlan, Candidates}
-use Rattle.refusals.specs.Refusals.{number_of, passes, ◌then◌}
-use Rattle.refusals.proofs.Refusals.{Passed, asked_passed, then_either}
+use Rattle.refusals.specs.Refusals.{number_of, passes, ◌then◌, Accepted, Space, NoPlan, Candidates, Outcome}
+use Rattle.refusals.proofs.Refusals.{Passed, err_refuses, ok_passes, asked_passed, then_passed, then_either}
 use Rattle.table.specs.declared.Looked.{Looked}
 use Rattle.table.specs.Tables.{Table, rows}
 use Rattle.table.specs.Checks.{looked, table_looked}
 use Rattle.table.specs.Planned.{space_bytes, space_refusal, best_plan, given, plan_refusal, space_after}
-use Rattle.table.proofs.Checked.{Not8, asked_8, lists_8, lists_passed}
-use Rattle.table.proofs.Calls.{space_kept, lists_first, space_next, rest_next}
+use Rattle.table.proofs.Checked.{Not8, asked_8, lists_8, lists_passed, table_8, table_looked_rows}
+use Rattle.table.proofs.Calls.{space_kept}
 use Rattle.best_plan.specs.Rows.{count_of}
 use Rattle.candidates.specs.Tried.{max_candidates, CandidateLists, size, numbers_tried, counts_tried, candidates_refusal, answers_refusal, table_refusal, lent_refusal, rows_with, table_tried, reported, CandidatesCalled, called, answers, candidates_call}
 use Rattle.candidates.specs.Lent.{CandidatesLent, TableLent, read_beside}
 
 -- ---- what is reported of the table
 
+none_there : (o : Maybe ℕ) → is_some o ≡ false → o ≡ None
+none_there None e = refl
+none_there (Some n) e = cc e
+
+some_there : (o : Maybe ℕ) → is_some o ≡ true → o ≡ None → ⊥
+some_there o e q = cc (e, q)
+
+-- its checks pass, from what was asked
+pub checks_passed : (t : Table) {l : Looked} → l ≡ table_looked t → is_err l.refusal ≡ false → Passed (table_looked t).refusal
+checks_passed t {l} e k = sym (ap (λ (x : Looked). number_of x.refusal) e) ∙ ok_passes l.refusal k
+
 module _ (t : Table) (c : CandidateLists) where
   -- from what the checks and the planning of the table end in
-  abbrev reports : Looked → Refusal → Looked
+  abbrev reports : Looked → Outcome → Looked
   reports l r = cond (passes l.refusal) (looked r (cond (passes r) (rows_with t c) (rows t))) l
 
   pub reports_so : table_tried t c ≡ reports (table_looked t) (plan_refusal t)
@@ -38,23 +48,19 @@ module _ (t : Table) (c : CandidateLists) where
   pub table_stops : (number_of (table_looked t).refusal ≡ 0 → ⊥) → table_tried t c ≡ table_looked t
   table_stops n = reports_so ∙ rw (ne_eqb (number_of (table_looked t).refusal) 0 n) refl
 
-  -- its checks pass, from what was asked
-  pub checks_passed : {l : Looked} {n : ℕ} → l ≡ table_looked t → n ≡ number_of l.refusal → n ≡ 0 → Passed (table_looked t).refusal
-  checks_passed e k z = sym (ap (λ (x : Looked). number_of x.refusal) e) ∙ sym k ∙ z
-
-  plan_none : count_of (best_plan t) ≡ 0 → plan_refusal t ≡ NoPlan
+  plan_none : count_of (best_plan t) ≡ None → plan_refusal t ≡ NoPlan
   unfolding count_of given
   plan_none = go (best_plan t)
     where
-      go : (o : Option (List ℕ)) → count_of o ≡ 0 → (given o []).answer.refusal ≡ NoPlan
+      go : (o : Option (List ℕ)) → count_of o ≡ None → (given o []).answer.refusal ≡ NoPlan
       go none e = refl
-      go (some plan) e = absurd (omega arith)
+      go (some plan) e = cc e
 
-  plan_some : (count_of (best_plan t) ≡ 0 → ⊥) → plan_refusal t ≡ Accepted
+  plan_some : (count_of (best_plan t) ≡ None → ⊥) → plan_refusal t ≡ Accepted
   unfolding count_of given
   plan_some = go (best_plan t)
     where
-      go : (o : Option (List ℕ)) → (count_of o ≡ 0 → ⊥) → (given o []).answer.refusal ≡ Accepted
+      go : (o : Option (List ℕ)) → (count_of o ≡ None → ⊥) → (given o []).answer.refusal ≡ Accepted
       go none n = absurd (n refl)
       go (some plan) n = refl
 
@@ -62,10 +68,10 @@ module _ (t : Table) (c : CandidateLists) where
     pub planning_reported : table_tried t c ≡ looked (plan_refusal t) (cond (passes (plan_refusal t)) (rows_with t c) (rows t))
     planning_reported = reports_so ∙ rw (eq-eqb (number_of (table_looked t).refusal) 0 p) refl
 
-    pub table_8_reported : count_of (best_plan t) ≡ 0 → table_tried t c ≡ looked NoPlan (rows t)
+    pub table_8_reported : count_of (best_plan t) ≡ None → table_tried t c ≡ looked NoPlan (rows t)
     table_8_reported e = planning_reported ∙ ap (λ r. looked r (cond (passes r) (rows_with t c) (rows t))) (plan_none e)
 
-    pub table_taken : (count_of (best_plan t) ≡ 0 → ⊥) → table_tried t c ≡ looked Accepted (rows_with t c)
+    pub table_taken : (count_of (best_plan t) ≡ None → ⊥) → table_tried t c ≡ looked Accepted (rows_with t c)
     table_taken n = planning_reported ∙ ap (λ r. looked r (cond (passes r) (rows_with t c) (rows t))) (plan_some n)
 
   -- the rows of the table and the candidates that are read
@@ -108,29 +114,41 @@ module _ (t : Table) (c : CandidateLists) (numbers counts space : List ℕ) wher
   unfolding answers
   accepted_so n a b s = λ i. called (looked Accepted n) (a i) (b i) (s i)
 
+  -- from what checking the table gave
+  module _ {l : Looked} (e : l ≡ table_looked t) where
+    pub stopped : is_err l.refusal ≡ true → called l numbers counts space ≡ gives (table_tried t c)
+    stopped k =
+        let n : number_of (table_looked t).refusal ≡ 0 → ⊥ = λ z. err_refuses l.refusal k (ap (λ (x : Looked). number_of x.refusal) e ∙ z) in
+        ap (λ x. called x numbers counts space) e ∙ refused_so (table_looked t) n (table_8 t) ∙ ap gives (sym (table_stops t c n))
+
+    all : is_err l.refusal ≡ false → l.rows ≡ rows t
+    all k = ap (λ (x : Looked). x.rows) e ∙ table_looked_rows t (checks_passed t e k)
+
+    -- and counting for it
+    module _ (k : is_err l.refusal ≡ false) {best : Maybe ℕ} (b : best ≡ count_of (best_plan t)) {none_left : Bool} (told : is_some best ≡ not none_left) where
+      pub no_plan_given : none_left ≡ true → {space' : List ℕ} → space' ≡ space_after NoPlan space → called (looked NoPlan l.rows) numbers counts space' ≡ gives (table_tried t c)
+      no_plan_given n s = rw (all k) (no_plan_so (rows t) s ∙ ap gives (sym (table_8_reported t c (checks_passed t e k) (sym b ∙ none_there best (told ∙ ap not n)))))
+
+      pub all_given : none_left ≡ false → {read : ℕ} → read ≡ read_beside t c → {numbers' counts' space' : List ℕ} → numbers' ≡ numbers_tried t c → counts' ≡ counts_tried t c → space' ≡ space_after Accepted space
+          → called (looked Accepted (l.rows + read)) numbers' counts' space' ≡ gives (table_tried t c)
+      all_given n r x y s =
+          rw (all k, r, rows_read t c)
+          (accepted_so (rows_with t c) x y s ∙ ap gives (sym (table_taken t c (checks_passed t e k) (λ z. some_there best (told ∙ ap not n) (b ∙ z)))))
+
   -- ---- the checks of what is lent
 
-  abbrev lent : Refusal
+  abbrev lent : Outcome
   lent = lent_refusal t c (length numbers) (length counts) (length space)
 
-  abbrev lists : Refusal
+  abbrev lists : Outcome
   lists = table_refusal t
 
-  abbrev check_16 : Refusal
+  abbrev check_16 : Outcome
   check_16 = answers_refusal c (length numbers) (length counts)
 
   pub lent_so : lent ≡ (lists then space_refusal (length space) then check_16)
   unfolding lent_refusal
   lent_so = refl
-
-  pub lists_refuse : (number_of lists ≡ 0 → ⊥) → lists ≡ lent
-  lists_refuse n = lists_first lists check_16 (length space) n ∙ sym lent_so
-
-  pub space_refuses : Passed lists → length space < space_bytes → Space ≡ lent
-  space_refuses p h = space_next lists check_16 (length space) p h ∙ sym lent_so
-
-  pub candidates_checked : Passed lists → space_bytes ≤ length space → check_16 ≡ lent
-  candidates_checked p h = rest_next lists check_16 (length space) p h ∙ sym lent_so
 
   lent_8 : Not8 lent
   unfolding lent_refusal space_refusal candidates_refusal
@@ -140,14 +158,17 @@ module _ (t : Table) (c : CandidateLists) (numbers counts space : List ℕ) wher
       (asked_8 (eqb (length c.ends) (size c) && eqb (length c.marks) (size c) && eqb (length numbers) (size c) && eqb (length counts) (size c) && leb (size c) max_candidates) {r = Candidates} (record { not = λ e. omega arith })))
 
   -- a check of what is lent refuses: no row was looked at
-  pub lent_refused : (r : Refusal) → r ≡ lent → (number_of r ≡ 0 → ⊥) → called (looked r 0) numbers counts space ≡ candidates_call t c numbers counts space
+  pub lent_refused : {r : Outcome} → r ≡ lent → is_err r ≡ true → called (looked r 0) numbers counts space ≡ candidates_call t c numbers counts space
   unfolding candidates_call reported
-  lent_refused r e n =
-      let m : number_of lent ≡ 0 → ⊥ = λ z. n (ap number_of e ∙ z) in
+  lent_refused {r} e k =
+      let m : number_of lent ≡ 0 → ⊥ = λ z. err_refuses r k (ap number_of e ∙ z) in
       ap (λ x. called (looked x 0) numbers counts space) e ∙ refused_so (looked lent 0) m lent_8 ∙ ap gives (sym (go m))
     where
       go : (number_of lent ≡ 0 → ⊥) → cond (passes lent) (table_tried t c) (looked lent 0) ≡ looked lent 0
       go m = rw (ne_eqb (number_of lent) 0 m) refl
+
+  pub lent_accepts : {r : Outcome} → r ≡ lent → is_err r ≡ false → Passed lent
+  lent_accepts {r} e k = sym (ap number_of e) ∙ ok_passes r k
 
   pub lent_passed : Passed lent → gives (table_tried t c) ≡ candidates_call t c numbers counts space
   unfolding candidates_call reported
@@ -161,7 +182,7 @@ module _ (t : Table) (c : CandidateLists) (numbers counts space : List ℕ) wher
   pub table_lent : Passed lists → space_bytes ≤ length space → TableLent t space
   table_lent p h = let l = lists_passed t t.starts p in record { few = l.1; each_end = l.0.0; each_mark = l.0.1; room = h }
 
-  pub candidates_lent : Passed check_16 → CandidatesLent c numbers counts
+  candidates_lent : Passed check_16 → CandidatesLent c numbers counts
   unfolding candidates_refusal
   candidates_lent p =
       let n = size c in
@@ -170,3 +191,10 @@ module _ (t : Table) (c : CandidateLists) (numbers counts space : List ℕ) wher
       (and_iff (and_iff (and_iff (and_iff (eqb_iff (length c.ends) n) (eqb_iff (length c.marks) n)) (eqb_iff (length numbers) n)) (eqb_iff (length counts) n)) (leb_iff n max_candidates)
       ).0 (asked_passed ok Candidates (omega arith) p) in
       record { few = f.1; each_end = f.0.0.0.0; each_mark = f.0.0.0.1; each_number = f.0.0.1; each_count = f.0.1 }
+
+  pub known_lent : Passed lent → TableLent t space × CandidatesLent c numbers counts
+  unfolding lent_refusal space_refusal
+  known_lent p =
+      let f = then_passed lists _ p in
+      let g = then_passed (space_refusal (length space)) check_16 f.1 in
+      (table_lent f.0 (leb-true space_bytes (length space) (asked_passed (leb space_bytes (length space)) Space (omega arith) g.0)), candidates_lent g.1)

@@ -1,4 +1,5 @@
 -- Worked examples of candidates (request 7 of paper 02): tables, and what each candidate is answered. And the edges: each refusal of a call with the rows looked at, and of two faults the one that is reported.
+use Rattle.refusals.specs.Refusals.{Accepted, Lists, Rows, Space, Ticks, Hours, Window, Mark, NoPlan, Gap, Candidates, Outcome}
 use Prim.Native.Nat.{ℕ}
 use mathlib.Core.Path.{◌≡◌, refl}
 use mathlib.Core.List.{List, [], ◌∷◌}
@@ -8,8 +9,6 @@ use Rattle.window.specs.declared.Kind.TheVariants.{Round, Run}
 use Rattle.window.specs.declared.Row.{Row}
 use Rattle.window.specs.Rows.{row, starts_of, ends_of, marks_of}
 use Rattle.window.specs.Hours.{hours_from, no_hours}
-use Rattle.refusals.specs.declared.Refusal.{Refusal}
-use Rattle.refusals.specs.declared.Refusal.TheVariants.{Accepted, Lists, Rows, Space, Ticks, Hours, Window, Mark, NoPlan, Gap, Candidates}
 use Rattle.table.specs.Tables.{Table, setting_of, table, table_of}
 use Rattle.table.specs.Checks.{looked}
 use Rattle.candidates.specs.Tried.{tried, CandidateLists, candidates, numbers_tried, counts_tried, rows_with, reported}
@@ -118,7 +117,7 @@ unfolding tried
 beside_full = (refl, refl, refl, refl, refl)
 
 -- a call with lists of answers so long and so many bytes of working space reports so
-abbrev pub Reports : Table → CandidateLists → ℕ → ℕ → ℕ → Refusal → ℕ → Type 0
+abbrev pub Reports : Table → CandidateLists → ℕ → ℕ → ℕ → Outcome → ℕ → Type 0
 Reports t c numbers counts space r n = reported t c numbers counts space ≡ looked r n
 
 -- "table rows plus candidates"; none of either; 64 candidates

@@ -16,10 +16,7 @@ use Rattle.labels.specs.Labels.{heard}
 use Rattle.marks.specs.Marks.{max_mark, raised}
 use Rattle.marks.proofs.Raising.{raised_within}
 use Rattle.window.specs.declared.Row.{Row}
-use Rattle.refusals.specs.declared.Refusal.{Refusal}
-use Rattle.refusals.specs.declared.Refusal.TheVariants.{Accepted, Space, NoPlan}
-use Rattle.refusals.specs.declared.Answer.{Answer}
-use Rattle.refusals.specs.Refusals.{number_of, answered, passes, ◌then◌}
+use Rattle.refusals.specs.Refusals.{number_of, answered, passes, ◌then◌, Accepted, Space, NoPlan, Answer, Outcome}
 use Rattle.refusals.proofs.Refusals.{Passed, passed_accepted, then_assoc, then_passed, asked_passed}
 use Rattle.table.specs.declared.Looked.{Looked}
 use Rattle.table.specs.Tables.{Table, rows, Plan, Valid}
@@ -34,8 +31,7 @@ use Rattle.table.proofs.Rivals.{best_plan_iff, no_plan, planned_passed, planned_
 use Rattle.table.proofs.Changes.{rows_with_row, row_last, planned_ends}
 use Rattle.best_plan.specs.Rows.{count_of}
 use Rattle.planner.proofs.Answering.{table_checked}
-use Rattle.candidates.specs.declared.Tried.{Tried}
-use Rattle.candidates.specs.Tried.{must_row, table_with, tried, CandidateLists, size, candidate_at, numbers_tried, counts_tried, answers_refusal, table_refusal, lent_refusal, rows_with, table_tried, reported, CandidatesCalled, called, answers, candidates_call}
+use Rattle.candidates.specs.Tried.{Tried, must_row, table_with, tried, CandidateLists, size, candidate_at, numbers_tried, counts_tried, answers_refusal, table_refusal, lent_refusal, rows_with, table_tried, reported, CandidatesCalled, called, answers, candidates_call}
 use Rattle.candidates.specs.Lent.{TableLent}
 use Rattle.candidates.proofs.Trying.{answer, labels, answered_so, tried_full}
 use Rattle.candidates.proofs.Answering.{reports_so, planning_reported, table_stops, table_8_reported, lent_so, table_lent}
@@ -103,7 +99,7 @@ module _ (t : Table) (candidate : Row) where
   unfolding given
   cannot_be_cast e = go (passes checks) refl
     where
-      checks : Refusal
+      checks : Outcome
       checks = checked (longer t candidate) (labels t candidate) space_bytes
 
       said : number_of (planned (longer t candidate) (labels t candidate) space_bytes).answer.refusal ≡ 8
@@ -130,7 +126,7 @@ module _ (t : Table) (c : CandidateLists) (numbers counts space : List ℕ) wher
   call = candidates_call t c numbers counts space
 
   -- the checks of what is lent: 1, 2, 3 and 16
-  abbrev lent : Refusal
+  abbrev lent : Outcome
   lent = lent_refusal t c (length numbers) (length counts) (length space)
 
   abbrev report : Looked
@@ -249,7 +245,7 @@ module _ (t : Table) (c : CandidateLists) (numbers counts space : List ℕ) wher
   pub rows_sooner : (number_of (lent then setting_refusal t.setting) ≡ 0 → ⊥) → report ≡ looked (lent then setting_refusal t.setting) 0
   rows_sooner = go (passes lent) refl
     where
-      S : Refusal
+      S : Outcome
       S = setting_refusal t.setting
 
       go : (x : Bool) → passes lent ≡ x → (number_of (cond x S lent) ≡ 0 → ⊥) → report ≡ looked (cond x S lent) 0

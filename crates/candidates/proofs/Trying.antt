@@ -1,27 +1,29 @@
 -- What a candidate is answered, from what the code asks: its row's checks, the count of the longer table, and whether the table is full.
-use Prim.Native.Nat.{ℕ, ◌<◌}
+use Prim.Native.Nat.{ℕ, ◌≤◌, ◌<◌}
 use mathlib.Core.Path.{◌≡◌, refl, sym, ap, ◌∙◌}
 use mathlib.Core.List.{List, [], ◌∷◌}
-use mathlib.Core.Option.{Option, none, some}
+use mathlib.Core.Option.{Option as Maybe, none, some}
 use native.Mathlib.Omega.{arith}
 use lib.ListN.{length, length-append, length-replicate, replicate}
 use borrow.Author.Tests.{eq-eqb, lt-leb}
 use Rattle.basics.specs.Limits.{max_rows}
 use Rattle.marks.proofs.Raising.{raised_within}
 use Rattle.window.specs.declared.Row.{Row}
-use Rattle.refusals.specs.declared.Refusal.TheVariants.{Rows}
-use Rattle.refusals.specs.Refusals.{number_of, ◌then◌}
-use Rattle.refusals.proofs.Refusals.{Passed, then_first}
-use Rattle.table.specs.Tables.{Table, rows}
+use Rattle.std.specs.Prelude.{Option, Result, Err, IfOk, ok_or}
+use Rattle.refusals.specs.declared.Refusal.{Refusal}
+use Rattle.refusals.specs.declared.Refusal.TheVariants as refusal
+use Rattle.refusals.specs.Refusals.{number_of, ◌then◌, Rows, Outcome}
+use Rattle.refusals.proofs.Refusals.{Passed, number_within, then_first}
+use Rattle.labels.proofs.Heard.{heard_le}
+use Rattle.table.specs.Tables.{Table, rows, Valid}
 use Rattle.table.specs.Checks.{lengths_refusal, lists_refusal, row_refusal, table_looked}
 use Rattle.table.specs.Planned.{space_bytes, space_refusal, checked, best_plan, Planned, given, planned}
 use Rattle.table.proofs.Checked.{row_passed, table_passed}
-use Rattle.table.proofs.Rivals.{planned_passed, planned_refused}
+use Rattle.table.proofs.Rivals.{best_plan_iff, planned_passed, planned_refused}
 use Rattle.table.proofs.Changes.{rows_with_row, checked_with}
 use Rattle.best_plan.specs.Rows.{ValidWith, count_of}
-use Rattle.candidates.specs.declared.Tried.{Tried}
-use Rattle.candidates.specs.Tried.{must_row, table_with, planning, tried}
-use Rattle.candidates.specs.Lent.{RowAddable, tried_of}
+use Rattle.candidates.specs.Tried.{Tried, must_row, table_with, planning, tried}
+use Rattle.candidates.specs.Lent.{RowAddable, told}
 
 abbrev pub answer : ℕ → ℕ → Tried
 answer number count = record { number = number; count = count }
@@ -46,18 +48,21 @@ module _ (t : Table) (candidate : Row) where
     unfolding space_refusal
     checks = checked_with t (must_row candidate) p below labels space_bytes (length-replicate (rows (table_with t candidate)) 0) ∙ checked_as_lent
 
-    -- it is refused
-    pub tried_refused : (number_of (row_refusal t.setting candidate) ≡ 0 → ⊥) → tried t candidate ≡ answer (number_of (row_refusal t.setting candidate)) 0
-    tried_refused n =
+    refused_so : (number_of (row_refusal t.setting candidate) ≡ 0 → ⊥) → tried t candidate ≡ answer (number_of (row_refusal t.setting candidate)) 0
+    refused_so n =
         answered_so (planned_refused (table_with t candidate) labels space_bytes (λ z. n (sym (ap number_of checks) ∙ z)))
         ∙ ap (λ r. answer (number_of r) 0) checks
 
+    -- it is refused
+    pub tried_refused : {r : Outcome} {e : Refusal} → r ≡ row_refusal t.setting candidate → r ≡ Err e → told (Err e) ≡ tried t candidate
+    tried_refused {r} {e} h k = sym (refused_so (λ z. omega (arith, ap number_of (sym h ∙ k), (number_within e).0)) ∙ ap (λ x. answer (number_of x) 0) (sym h ∙ k))
+
     -- it passes its checks
-    pub tried_counted : Passed (row_refusal t.setting candidate) → tried t candidate ≡ tried_of (count_of (best_plan (table_with t candidate)))
-    unfolding given count_of tried_of
+    pub tried_counted : Passed (row_refusal t.setting candidate) → tried t candidate ≡ told (ok_or (count_of (best_plan (table_with t candidate))) refusal.NoPlan)
+    unfolding given count_of
     tried_counted q = answered_so (planned_passed (table_with t candidate) labels space_bytes (ap number_of checks ∙ q)) ∙ go (best_plan (table_with t candidate))
       where
-        go : (o : Option (List ℕ)) → answer (number_of (given o labels).answer.refusal) (given o labels).answer.count ≡ tried_of (count_of o)
+        go : (o : Maybe (List ℕ)) → answer (number_of (given o labels).answer.refusal) (given o labels).answer.count ≡ told (ok_or (count_of o) refusal.NoPlan)
         go none = refl
         go (some plan) = refl
 
@@ -88,3 +93,12 @@ addable t space a candidate q =
       new = row_passed t.setting (must_row candidate) (ap number_of (checked_as_lent t candidate) ∙ q);
       few = a.below;
     }
+
+-- a plan hears at most 64 rows
+pub told_few : (t : Table) → Valid t → {best : Option ℕ} {r : Result ℕ Refusal} → best ≡ count_of (best_plan t) → r ≡ ok_or best refusal.NoPlan → IfOk r (λ n. n ≤ max_rows)
+unfolding count_of
+told_few t v {best} {r} b e = rw (e, b) (go (best_plan t) refl)
+  where
+    go : (o : Maybe (List ℕ)) → best_plan t ≡ o → IfOk (ok_or (count_of o) refusal.NoPlan) (λ n. n ≤ max_rows)
+    go none q = tt
+    go (some plan) q = omega (arith, heard_le plan, ((best_plan_iff t v plan).0 q).member.each, v.few)

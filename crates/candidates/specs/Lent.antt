@@ -1,12 +1,13 @@
 -- Inner: What the functions of the crate `candidates` lend each other.
-use Rattle.std.specs.Prelude.{ℕ, zero, suc, ◌≤◌, ◌<◌, ◌≡◌, cond, List, eqb, length}
+use Rattle.std.specs.Prelude.{ℕ, ◌≤◌, ◌<◌, ◌≡◌, cond, List, eqb, length, Result, Ok, Err}
 use Rattle.basics.specs.Limits.{max_rows}
+use Rattle.refusals.specs.declared.Refusal.{Refusal}
+use Rattle.refusals.specs.Numbers.{number}
 use Rattle.refusals.specs.Refusals.{number_of}
 use Rattle.table.specs.Tables.{Table, rows}
 use Rattle.table.specs.Checks.{table_looked}
 use Rattle.table.specs.Planned.{space_bytes}
-use Rattle.candidates.specs.declared.Tried.{Tried}
-use Rattle.candidates.specs.Tried.{max_candidates, CandidateLists, size}
+use Rattle.candidates.specs.Tried.{Tried, max_candidates, CandidateLists, size}
 
 -- candidates and lists for their answers that passed check 16
 pub record CandidatesLent (c : CandidateLists) (numbers counts : List ℕ) : Type 0 where
@@ -33,10 +34,10 @@ pub record RowAddable (t : Table) (space : List ℕ) : Type 0 where
   pub passed : TablePassed t space
   pub below : rows t < max_rows
 
--- a candidate's answer from the count of the longer table's best plan and one more, 0 where there is none
-unfoldable pub tried_of : ℕ → Tried
-tried_of zero = record { number = 8; count = 0 }
-tried_of (suc n) = record { number = 0; count = n }
+-- a candidate's count, or why it is refused, as it is answered
+abbrev pub told : Result ℕ Refusal → Tried
+told (Ok n) = record { number = 0; count = n }
+told (Err e) = record { number = number e; count = 0 }
 
 -- how many candidates are read beside the table
 abbrev pub read_beside : Table → CandidateLists → ℕ

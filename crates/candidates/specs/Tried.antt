@@ -5,16 +5,13 @@ use Rattle.basics.specs.Lists.{list_of}
 use Rattle.marks.specs.Marks.{raised}
 use Rattle.window.specs.declared.Row.{Row}
 use Rattle.window.specs.Rows.{row}
-use Rattle.refusals.specs.declared.Refusal.{Refusal}
-use Rattle.refusals.specs.declared.Refusal.TheVariants.{Candidates}
-use Rattle.refusals.specs.declared.Answer.{Answer}
-use Rattle.refusals.specs.Refusals.{number_of, asked, passes, ◌then◌}
+use Rattle.refusals.specs.Refusals.{number_of, asked, passes, ◌then◌, Candidates, Answer, Outcome}
 use Rattle.table.specs.declared.Looked.{Looked}
+use Rattle.table.specs.declared.Rows.{Rows}
 use Rattle.table.specs.Tables.{Table, rows, row_of}
 use Rattle.table.specs.Checks.{lengths_refusal, looked, table_looked}
 use Rattle.table.specs.Planned.{space_bytes, space_refusal, best_plan, given, plan_refusal, planned, space_after}
 use Rattle.table.specs.Changes.{with_row}
-use Rattle.candidates.specs.declared.Tried.{Tried}
 
 -- ---- one candidate
 
@@ -30,6 +27,11 @@ table_with t candidate = with_row t (must_row candidate)
 unfoldable pub planning : Table → Answer
 unfolding planned
 planning t = (planned t (replicate (rows t) 0) space_bytes).answer
+
+-- what a candidate is answered: a refusal's number, 0 for accepted, and a count, 0 on a refusal
+pub record Tried : Type 0 where
+  pub number : ℕ
+  pub count : ℕ
 
 -- "For each, answer what planning the table with it as an added must row .. would give: number and count."
 unfoldable pub tried : Table → Row → Tried
@@ -51,6 +53,10 @@ pub record CandidateLists : Type 0 where
 abbrev pub candidates : List ℕ → List ℕ → List ℕ → CandidateLists
 candidates starts ends marks = record { starts = starts; ends = ends; marks = marks }
 
+-- the candidates that code is lent
+abbrev pub offered : Rows → CandidateLists
+offered c = candidates c.starts.now c.ends.now c.marks.now
+
 abbrev pub size : CandidateLists → ℕ
 size c = length c.starts
 
@@ -67,20 +73,20 @@ counts_tried t c = list_of (size c) (λ j. (tried t (candidate_at c j)).count)
 -- ---- the refusals of a call
 
 -- "16, candidate and answer lists of unequal length or beyond 64": by the lengths of starts, ends, marks, numbers and counts
-unfoldable pub candidates_refusal : ℕ → ℕ → ℕ → ℕ → ℕ → Refusal
+unfoldable pub candidates_refusal : ℕ → ℕ → ℕ → ℕ → ℕ → Outcome
 candidates_refusal starts ends marks numbers counts =
     asked (eqb ends starts && eqb marks starts && eqb numbers starts && eqb counts starts && leb starts max_candidates) Candidates
 
 -- the same of the candidates and their lists of answers, which are so long
-abbrev pub answers_refusal : CandidateLists → ℕ → ℕ → Refusal
+abbrev pub answers_refusal : CandidateLists → ℕ → ℕ → Outcome
 answers_refusal c numbers counts = candidates_refusal (size c) (length c.ends) (length c.marks) numbers counts
 
 -- 1 and 2 of a table for which no labels are lent
-abbrev pub table_refusal : Table → Refusal
+abbrev pub table_refusal : Table → Outcome
 table_refusal t = lengths_refusal (rows t) (length t.ends) (length t.marks) (rows t)
 
 -- 16 is looked at "after 3"
-unfoldable pub lent_refusal : Table → CandidateLists → ℕ → ℕ → ℕ → Refusal
+unfoldable pub lent_refusal : Table → CandidateLists → ℕ → ℕ → ℕ → Outcome
 unfolding lengths_refusal space_refusal candidates_refusal
 lent_refusal t c numbers counts space = table_refusal t then space_refusal space then answers_refusal c numbers counts
 

@@ -1,12 +1,12 @@
 // Calls that try candidates, each judged whole: the refusal's number, the rows looked at, every place of both lists of answers, every byte of the working space.
-// Product code has a part in each call: its setting is of the table's own type, `refusals::number` gives the number of its refusal.
+// Product code has a part in each call: a table is of its own types, `refusals::number` gives the number of its refusal.
 #![tactic(auto)]
 
 ghost use Rattle.std.specs.Prelude.{◌≡◌, true, ◌↔◌};
 ghost use Rattle.candidates_calls.specs.Judged.{Reported, Right};
 
-use table::{Looked, Setting};
-use trial_calls::{BEFORE, LENT_BYTES, at_most};
+use table::{Looked, Rows, Table};
+use trial_calls::{BEFORE, LENT_BYTES};
 
 // How many places of each list of answers a call is lent, and how many bytes of the working space.
 #[derive(Clone, Copy)]
@@ -37,11 +37,7 @@ pub struct Report {
 fn is_reported(looked: Looked, report: Report) -> bool
     ensures { (result ≡ true) ↔ Reported looked report }
 {
-    let refusal = looked.refusal;
-    if refusals::number(refusal) != report.number {
-        return false;
-    }
-    looked.rows == report.rows
+    refusals::number(looked.refusal) == report.number && looked.rows == report.rows
 }
 
 // Whether the report is right, the answers stand at the first places of their lists, and the other places and the working space are as the call is to leave them.
@@ -56,45 +52,29 @@ fn is_right(
 ) -> bool
     ensures { (result ≡ true) ↔ Right looked numbers.now counts.now space.now report first_numbers.now first_counts.now }
 {
-    if !is_reported(looked, report) {
-        return false;
-    }
-    if !trial_calls::is_written(numbers, first_numbers) {
-        return false;
-    }
-    if !trial_calls::is_written(counts, first_counts) {
-        return false;
-    }
-    trial_calls::is_left(space, report.number)
+    is_reported(looked, report)
+        && trial_calls::is_written(numbers, first_numbers)
+        && trial_calls::is_written(counts, first_counts)
+        && trial_calls::is_left(space, report.number)
 }
 
 // ---- calls
 
 // What a call reports that is lent so much of the lists of answers and of the working space.
 fn call_lent(
-    setting: Setting,
-    starts: &[u16],
-    ends: &[u16],
-    marks: &[u8],
-    candidate_starts: &[u16],
-    candidate_ends: &[u16],
-    candidate_marks: &[u8],
+    table: Table,
+    candidates: Rows,
     numbers: &mut [u8],
     counts: &mut [u8],
     space: &mut [u8],
     lent: Lent,
 ) -> Looked {
-    let a = at_most(lent.numbers, numbers.len());
-    let b = at_most(lent.counts, counts.len());
-    let c = at_most(lent.bytes, space.len());
+    let a = lent.numbers.min(numbers.len());
+    let b = lent.counts.min(counts.len());
+    let c = lent.bytes.min(space.len());
     candidates::try_each(
-        setting,
-        starts,
-        ends,
-        marks,
-        candidate_starts,
-        candidate_ends,
-        candidate_marks,
+        table,
+        candidates,
         &mut numbers[..a],
         &mut counts[..b],
         &mut space[..c],
@@ -104,13 +84,8 @@ fn call_lent(
 // Whether a call gives the report and these answers; none on a refusal. Each list of answers has two places more than the most that a call is lent, so that a step
 // beyond the lent ones is seen.
 pub fn is_tried(
-    setting: Setting,
-    starts: &[u16],
-    ends: &[u16],
-    marks: &[u8],
-    candidate_starts: &[u16],
-    candidate_ends: &[u16],
-    candidate_marks: &[u8],
+    table: Table,
+    candidates: Rows,
     lent: Lent,
     report: Report,
     numbers: &[u8],
@@ -120,13 +95,8 @@ pub fn is_tried(
     let mut given_counts = [BEFORE; 67];
     let mut space = [BEFORE; LENT_BYTES];
     let looked = call_lent(
-        setting,
-        starts,
-        ends,
-        marks,
-        candidate_starts,
-        candidate_ends,
-        candidate_marks,
+        table,
+        candidates,
         &mut given_numbers,
         &mut given_counts,
         &mut space,

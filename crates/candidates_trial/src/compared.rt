@@ -1,17 +1,18 @@
 // Random calls judged whole, with what they are to give worked out beside the brute force.
 use crate::drawn::{Drawn, Table};
 use crate::expected::Expected;
+use crate::judged::rows_of;
 use crate::tally::{Answers, Calls};
-use crate::{drawn, expected, tally};
+use crate::{drawn, expected};
 use candidates_calls::{Lent, Report, is_tried};
 use table::Setting;
-use trial_calls::{first_bytes, first_words};
+use trial_calls::first;
 use trial_report::more;
-use window::Kind;
+use window::{Kind, Row};
 
 pub const CALLS: u32 = 12000;
 
-#[derive(Clone, Copy)]
+#[derive(Clone, Copy, Default)]
 pub struct Tally {
     pub calls: Calls,
     pub answers: Answers,
@@ -21,68 +22,72 @@ pub struct Tally {
 
 // ---- the lists that are lent: after the rows that were drawn come rows 0–1 that may be heard, of which the calls with 64 rows or more have some
 
-fn word_or(list: &[u16; 8], i: usize, n: usize, after: u16) -> u16 {
-    if i < n && i < 8 { list[i] } else { after }
+#[derive(Clone, Copy)]
+struct Lists {
+    starts: [u16; 67],
+    ends: [u16; 67],
+    marks: [u8; 67],
 }
 
-fn byte_or(list: &[u8; 8], i: usize, n: usize) -> u8 {
-    if i < n && i < 8 { list[i] } else { 0 }
-}
-
-fn words(list: &[u16; 8], n: usize, after: u16) -> [u16; 67] {
-    let mut l = [0u16; 67];
-    for i in 0..67 {
-        l[i] = word_or(list, i, n, after);
+// The first `n` of the rows, and rows 0–1 after them.
+fn row_or(list: &[Row; 8], n: usize, i: usize) -> Row {
+    if i < n && i < 8 {
+        list[i]
+    } else {
+        Row {
+            start: 0,
+            end: 1,
+            mark: 0,
+        }
     }
-    l
 }
 
-fn bytes(list: &[u8; 8], n: usize) -> [u8; 67] {
-    let mut l = [0u8; 67];
-    for i in 0..67 {
-        l[i] = byte_or(list, i, n);
+fn lists_of(list: &[Row; 8], n: usize) -> Lists {
+    let rows: [Row; 67] = std::array::from_fn(|i| row_or(list, n, i));
+    Lists {
+        starts: rows.map(|row| row.start),
+        ends: rows.map(|row| row.end),
+        marks: rows.map(|row| row.mark),
     }
-    l
+}
+
+impl Lists {
+    // So many places of each list.
+    fn lent(&self, starts: usize, ends: usize, marks: usize) -> table::Rows<'_> {
+        rows_of(
+            first(&self.starts, starts),
+            first(&self.ends, ends),
+            first(&self.marks, marks),
+        )
+    }
 }
 
 // ---- calls
 
 fn setting_of(t: Table) -> Setting {
-    let hours = t.hours;
-    let kind = if t.run { Kind::Run } else { Kind::Round };
-    table::setting_of(
-        kind,
-        t.ticks,
-        t.gap,
-        [[hours[0], hours[1]], [hours[2], hours[3]]],
-    )
-}
-
-// How many candidates are answered.
-fn answered(number: u8, candidates: usize) -> usize {
-    if number == 0 { candidates } else { 0 }
+    Setting {
+        kind: if t.run { Kind::Run } else { Kind::Round },
+        ticks: t.ticks,
+        gap: t.gap,
+        hours: t.hours,
+    }
 }
 
 // Whether the call, whole, gives this report and these answers.
 fn gives(d: Drawn, report: Report, numbers: &[u8], counts: &[u8]) -> bool {
-    let t = d.table;
-    let rows = t.list;
-    let starts = rows.starts;
-    let ends = rows.ends;
-    let marks = rows.marks;
-    let rows2 = d.list;
-    let starts2 = rows2.starts;
-    let ends2 = rows2.ends;
-    let marks2 = rows2.marks;
     let lent = d.lent;
+    let list = lists_of(&d.table.list, d.table.rows);
+    let list2 = lists_of(&d.list, d.candidates);
     is_tried(
-        setting_of(t),
-        first_words(&words(&starts, t.rows, 0), lent.starts),
-        first_words(&words(&ends, t.rows, 1), lent.ends),
-        first_bytes(&bytes(&marks, t.rows), lent.marks),
-        first_words(&words(&starts2, d.candidates, 0), lent.candidate_starts),
-        first_words(&words(&ends2, d.candidates, 1), lent.candidate_ends),
-        first_bytes(&bytes(&marks2, d.candidates), lent.candidate_marks),
+        table::Table {
+            setting: setting_of(d.table),
+            rows: list.lent(lent.starts, lent.ends, lent.marks),
+        },
+        list2.lent(
+            lent.candidate_starts,
+            lent.candidate_ends,
+            lent.candidate_marks,
+        ),
         Lent {
             numbers: lent.numbers,
             counts: lent.counts,
@@ -94,47 +99,43 @@ fn gives(d: Drawn, report: Report, numbers: &[u8], counts: &[u8]) -> bool {
     )
 }
 
-// Whether it gives what is expected.
+// Whether it gives what is expected. A refused call answers no candidate.
 fn is_right(d: Drawn, e: Expected) -> bool {
-    let report = e.report;
-    let numbers = e.numbers;
-    let counts = e.counts;
-    let n = answered(report.number, d.candidates);
-    gives(d, report, first_bytes(&numbers, n), first_bytes(&counts, n))
+    let n = if e.report.number == 0 {
+        d.candidates
+    } else {
+        0
+    };
+    let numbers = e.tried.map(|tried| tried.number);
+    let counts = e.tried.map(|tried| tried.count);
+    gives(d, e.report, first(&numbers, n), first(&counts, n))
 }
 
-fn answers_with(a: Answers, d: Drawn, e: Expected) -> Answers {
-    let report = e.report;
-    if report.number == 0 {
-        return tally::with_answers(a, d, e);
-    }
-    a
-}
-
-// One call more.
-fn with_call(t: Tally) -> Tally {
-    let calls = t.calls;
-    let answers = t.answers;
-    let d = drawn::draw(t.state);
-    let e = expected::of_call(d);
-    let report = e.report;
-    Tally {
-        calls: tally::with_call(calls, d, report),
-        answers: answers_with(answers, d, e),
-        differ: more(t.differ, !is_right(d, e)),
-        state: d.state,
+impl Tally {
+    // One call more.
+    fn with_call(self) -> Tally {
+        let d = drawn::draw(self.state);
+        let e = expected::of_call(d);
+        Tally {
+            calls: self.calls.with_call(d, e.report),
+            answers: if e.report.number == 0 {
+                self.answers.with_call(d, e)
+            } else {
+                self.answers
+            },
+            differ: more(self.differ, !is_right(d, e)),
+            state: d.state,
+        }
     }
 }
 
 pub fn all() -> Tally {
     let mut tally = Tally {
-        calls: tally::no_calls(),
-        answers: tally::no_answers(),
-        differ: 0,
         state: 707,
+        ..Tally::default()
     };
-    for turn in 0..CALLS {
-        tally = with_call(tally);
+    for _ in 0..CALLS {
+        tally = tally.with_call();
     }
     tally
 }

@@ -4,24 +4,15 @@ use brute_force::random::{below_any, below_too, from};
 use trial_calls::LENT_BYTES;
 use window::Row;
 
-// A run or a round; hours are p1, q1, p2, q2. Only the first `rows` rows count.
+// A run or a round. Only the first `rows` rows count.
 #[derive(Clone, Copy)]
 pub struct Table {
     pub run: bool,
     pub ticks: u16,
     pub gap: u16,
-    pub hours: [u16; 4],
+    pub hours: [[u16; 2]; 2],
     pub rows: usize,
-    pub list: Rows,
-}
-
-#[derive(Clone, Copy)]
-pub struct Rows {
-    pub starts: [u16; 8],
-    pub ends: [u16; 8],
-    pub marks: [u8; 8],
-    // the sequence's state after the rows
-    state: u64,
+    pub list: [Row; 8],
 }
 
 // How many places of each list a call is lent, and how many bytes of the working space.
@@ -43,7 +34,7 @@ pub struct Lists {
 pub struct Drawn {
     pub table: Table,
     pub candidates: usize,
-    pub list: Rows,
+    pub list: [Row; 8],
     pub lent: Lists,
     pub state: u64,
 }
@@ -63,11 +54,7 @@ struct Days {
 fn wrong_window(d: Days, start: u16, mark: u8, late: bool) -> Row {
     let ticks = d.ticks;
     if d.run {
-        let end = if late {
-            std::num::wrapping_add_u16(ticks, 1)
-        } else {
-            start
-        };
+        let end = if late { ticks.wrapping_add(1) } else { start };
         return Row { start, end, mark };
     }
     if late {
@@ -86,14 +73,14 @@ fn wrong_window(d: Days, start: u16, mark: u8, late: bool) -> Row {
 
 // The end of a window of so many ticks: in a run cut off at R, in a round going on from R-1 to 0. After R ticks it is the start.
 fn end_of(d: Days, start: u16, length: u16) -> u16 {
-    let end = std::num::wrapping_add_u16(start, length);
+    let end = start.wrapping_add(length);
     if end < d.ticks {
         return end;
     }
     if d.run {
         return d.ticks;
     }
-    std::num::wrapping_sub_u16(end, d.ticks)
+    end.wrapping_sub(d.ticks)
 }
 
 // How many ticks a window covers: up to the longest, and in a round, for one row in eight, all R.
@@ -134,25 +121,19 @@ fn after_row(state: u64) -> u64 {
     random::next(random::next(random::next(random::next(state))))
 }
 
-// Eight rows.
-fn draw_rows(d: Days, state: u64) -> Rows {
-    let mut starts = [0u16; 8];
-    let mut ends = [0u16; 8];
-    let mut marks = [0u8; 8];
+// Eight rows, and the state after them.
+fn draw_rows(d: Days, state: u64) -> ([Row; 8], u64) {
+    let mut list = [Row {
+        start: 0,
+        end: 0,
+        mark: 0,
+    }; 8];
     let mut s = state;
     for i in 0..8 {
-        let row = draw_row(d, s);
-        starts[i] = row.start;
-        ends[i] = row.end;
-        marks[i] = row.mark;
+        list[i] = draw_row(d, s);
         s = after_row(s);
     }
-    Rows {
-        starts,
-        ends,
-        marks,
-        state: s,
-    }
+    (list, s)
 }
 
 // ---- a table's setting
@@ -180,19 +161,20 @@ fn draw_gap(ticks: u16, state: u64) -> u16 {
 // A receiver opens in the first part of the day and closes in the last; it may be closed, close before it opens, or close after the day's end.
 fn hours_of(ticks: u16, state: u64) -> [u16; 2] {
     let p = below_any(state, ticks / 3 + 1);
-    let q = std::num::wrapping_sub_u16(ticks, below_any(random::next(state), ticks / 3 + 1));
+    let q = ticks.wrapping_sub(below_any(random::next(state), ticks / 3 + 1));
     match below_too(state, 32) {
         0 => [p, p],
-        1 => [std::num::wrapping_add_u16(q, 1), q],
-        2 => [p, std::num::wrapping_add_u16(ticks, 1)],
+        1 => [q.wrapping_add(1), q],
+        2 => [p, ticks.wrapping_add(1)],
         _ => [p, q],
     }
 }
 
-fn draw_hours(ticks: u16, state: u64) -> [u16; 4] {
-    let first = hours_of(ticks, state);
-    let second = hours_of(ticks, random::next(random::next(state)));
-    [first[0], first[1], second[0], second[1]]
+fn draw_hours(ticks: u16, state: u64) -> [[u16; 2]; 2] {
+    [
+        hours_of(ticks, state),
+        hours_of(ticks, random::next(random::next(state))),
+    ]
 }
 
 // ---- what is lent
@@ -217,11 +199,7 @@ fn lent_candidates(candidates: usize, state: u64) -> usize {
 
 // One place more for the list that the fault names.
 fn places(n: usize, list: u16, fault: u16) -> usize {
-    if list == fault {
-        std::num::wrapping_add_usize(n, 1)
-    } else {
-        n
-    }
+    if list == fault { n.wrapping_add(1) } else { n }
 }
 
 // One byte too few for one call in 24, just enough for as many, and for as many one byte less than was asked for before request 9.
@@ -264,46 +242,39 @@ fn draw_days(state: u64) -> Days {
     Days {
         run: below_too(state, 3) == 0,
         ticks,
-        longest: from(a, 1, std::num::wrapping_sub_u16(ticks, 1)),
+        longest: from(a, 1, ticks.wrapping_sub(1)),
         often: 64,
     }
 }
 
-// One candidate in 8 has a wrong window, and one in 8 a wrong mark.
-fn days_of_candidates(d: Days) -> Days {
-    Days {
-        run: d.run,
-        ticks: d.ticks,
-        longest: d.longest,
-        often: 8,
-    }
-}
-
-fn draw_table(d: Days, state: u64) -> Table {
+// A table, and the state after its rows.
+fn draw_table(d: Days, state: u64) -> (Table, u64) {
     let a = random::next(state);
     let b = random::next(a);
-    let c = random::next(random::next(random::next(random::next(b))));
-    Table {
+    let c = after_row(b);
+    let (list, after) = draw_rows(d, c);
+    let table = Table {
         run: d.run,
         ticks: lent_ticks(d.ticks, state),
         gap: draw_gap(d.ticks, a),
         hours: draw_hours(d.ticks, b),
-        rows: below_any(state, 7) as usize,
-        list: draw_rows(d, c),
-    }
+        rows: usize::from(below_any(state, 7)),
+        list,
+    };
+    (table, after)
 }
 
+// One candidate in 8 has a wrong window, and one in 8 a wrong mark.
 pub fn draw(state: u64) -> Drawn {
     let d = draw_days(state);
-    let table = draw_table(d, random::next(random::next(state)));
-    let rows = table.list;
-    let candidates = from(rows.state, 1, 4) as usize;
-    let list = draw_rows(days_of_candidates(d), random::next(rows.state));
+    let (table, a) = draw_table(d, random::next(random::next(state)));
+    let candidates = usize::from(from(a, 1, 4));
+    let (list, b) = draw_rows(Days { often: 8, ..d }, random::next(a));
     Drawn {
         table,
         candidates,
         list,
-        lent: draw_lists(table.rows, candidates, list.state),
-        state: after_row(list.state),
+        lent: draw_lists(table.rows, candidates, b),
+        state: after_row(b),
     }
 }

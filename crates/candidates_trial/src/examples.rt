@@ -1,20 +1,22 @@
 // Tables and candidates with their answers, and which wrong methods these tell apart.
-use crate::judged::{open_run, round, run, tried, tried_one};
-use trial_calls::first_words;
-use trial_report::{Group, no_cases};
+use crate::judged::{open_run, rows_of, tried, tried_one};
+use table::Setting;
+use trial_calls::{first, run};
+use trial_report::Group;
+use window::Row;
 
 // The table of paper 01's session, which hears 3. A candidate that must be heard beside three rows that share tick 25 leaves one of them; one that sends all day
 // leaves a receiver to the others, which hears 2 of them. "01's row checks": 6, and 7, and 6 before 7.
 fn session(group: Group) -> Group {
     tried(
         group,
-        round(100, 0),
-        &[10, 20, 25, 90],
-        &[30, 40, 50, 10],
-        &[0, 0, 0, 0],
-        &[50, 25, 95, 28, 0, 100, 50, 100],
-        &[60, 50, 20, 29, 0, 0, 60, 0],
-        &[0, 1, 0, 2, 0, 0, 6, 6],
+        Setting::round(100, 0),
+        rows_of(&[10, 20, 25, 90], &[30, 40, 50, 10], &[0, 0, 0, 0]),
+        rows_of(
+            &[50, 25, 95, 28, 0, 100, 50, 100],
+            &[60, 50, 20, 29, 0, 0, 60, 0],
+            &[0, 1, 0, 2, 0, 0, 6, 6],
+        ),
         &[0, 0, 0, 0, 0, 6, 7, 6],
         &[4, 3, 4, 3, 3, 0, 0, 0],
     )
@@ -25,13 +27,13 @@ fn each_mark(group: Group, marks: &[u8], numbers: &[u8], counts: &[u8]) -> Group
     let rows = marks.len();
     tried(
         group,
-        round(10, 0),
-        first_words(&[4, 4], rows),
-        first_words(&[5, 5], rows),
-        marks,
-        &[4, 4, 4, 4, 4, 4],
-        &[5, 5, 5, 5, 5, 5],
-        &[0, 1, 2, 3, 4, 5],
+        Setting::round(10, 0),
+        rows_of(first(&[4, 4], rows), first(&[5, 5], rows), marks),
+        rows_of(
+            &[4, 4, 4, 4, 4, 4],
+            &[5, 5, 5, 5, 5, 5],
+            &[0, 1, 2, 3, 4, 5],
+        ),
         numbers,
         counts,
     )
@@ -54,13 +56,13 @@ fn raised(group: Group) -> Group {
 fn each_alone(group: Group) -> Group {
     tried(
         group,
-        round(10, 0),
-        &[4],
-        &[5],
-        &[1],
-        &[4, 4, 10, 7, 4, 6, 4, 7],
-        &[5, 5, 0, 7, 5, 7, 5, 7],
-        &[1, 0, 0, 1, 6, 2, 4, 1],
+        Setting::round(10, 0),
+        rows_of(&[4], &[5], &[1]),
+        rows_of(
+            &[4, 4, 10, 7, 4, 6, 4, 7],
+            &[5, 5, 0, 7, 5, 7, 5, 7],
+            &[1, 0, 0, 1, 6, 2, 4, 1],
+        ),
         &[0, 0, 6, 0, 7, 0, 0, 0],
         &[2, 2, 0, 2, 0, 2, 2, 2],
     )
@@ -70,13 +72,9 @@ fn each_alone(group: Group) -> Group {
 fn counts(group: Group) -> Group {
     tried(
         group,
-        round(10, 0),
-        &[0, 0, 3],
-        &[0, 3, 6],
-        &[1, 0, 0],
-        &[5, 1, 7, 2, 6],
-        &[5, 2, 8, 4, 0],
-        &[0, 0, 0, 0, 0],
+        Setting::round(10, 0),
+        rows_of(&[0, 0, 3], &[0, 3, 6], &[1, 0, 0]),
+        rows_of(&[5, 1, 7, 2, 6], &[5, 2, 8, 4, 0], &[0, 0, 0, 0, 0]),
         &[0, 0, 0, 0, 0],
         &[2, 3, 4, 2, 4],
     )
@@ -86,25 +84,21 @@ fn counts(group: Group) -> Group {
 fn gaps(group: Group) -> Group {
     let g = tried(
         group,
-        round(12, 3),
-        &[0],
-        &[2],
-        &[3],
-        &[5, 5, 4, 4, 9, 9],
-        &[9, 10, 9, 9, 9, 9],
-        &[2, 2, 2, 4, 2, 0],
+        Setting::round(12, 3),
+        rows_of(&[0], &[2], &[3]),
+        rows_of(
+            &[5, 5, 4, 4, 9, 9],
+            &[9, 10, 9, 9, 9, 9],
+            &[2, 2, 2, 4, 2, 0],
+        ),
         &[0, 8, 8, 0, 8, 0],
         &[2, 0, 0, 2, 0, 2],
     );
     tried(
         g,
         open_run(12, 3),
-        &[0],
-        &[2],
-        &[3],
-        &[5, 5, 4, 4, 5],
-        &[9, 12, 9, 9, 13],
-        &[2, 2, 2, 4, 2],
+        rows_of(&[0], &[2], &[3]),
+        rows_of(&[5, 5, 4, 4, 5], &[9, 12, 9, 9, 13], &[2, 2, 2, 4, 2]),
         &[0, 0, 8, 0, 6],
         &[2, 2, 0, 2, 0],
     )
@@ -115,12 +109,12 @@ fn hours(group: Group) -> Group {
     tried(
         group,
         run(100, 0, [[0, 50], [40, 100]]),
-        &[45, 50, 0],
-        &[60, 60, 50],
-        &[0, 0, 0],
-        &[60, 50, 0, 10, 10, 60, 60, 99],
-        &[70, 60, 100, 20, 20, 60, 101, 100],
-        &[0, 0, 0, 0, 4, 0, 0, 1],
+        rows_of(&[45, 50, 0], &[60, 60, 50], &[0, 0, 0]),
+        rows_of(
+            &[60, 50, 0, 10, 10, 60, 60, 99],
+            &[70, 60, 100, 20, 20, 60, 101, 100],
+            &[0, 0, 0, 0, 4, 0, 0, 1],
+        ),
         &[0, 0, 8, 0, 8, 6, 6, 0],
         &[3, 2, 0, 2, 0, 0, 0, 3],
     )
@@ -131,22 +125,44 @@ fn hours(group: Group) -> Group {
 fn placed_anew(group: Group) -> Group {
     let mut g = tried_one(
         group,
-        round(100, 0),
-        &[0, 20, 5],
-        &[10, 30, 15],
-        &[0, 0, 0],
-        12,
-        22,
-        0,
+        Setting::round(100, 0),
+        rows_of(&[0, 20, 5], &[10, 30, 15], &[0, 0, 0]),
+        Row {
+            start: 12,
+            end: 22,
+            mark: 0,
+        },
         0,
         4,
     );
-    g = tried_one(g, round(10, 0), &[0, 3], &[4, 8], &[0, 0], 7, 1, 0, 0, 2);
-    tried_one(g, round(10, 0), &[0, 3], &[4, 8], &[1, 1], 7, 1, 0, 8, 0)
+    g = tried_one(
+        g,
+        Setting::round(10, 0),
+        rows_of(&[0, 3], &[4, 8], &[0, 0]),
+        Row {
+            start: 7,
+            end: 1,
+            mark: 0,
+        },
+        0,
+        2,
+    );
+    tried_one(
+        g,
+        Setting::round(10, 0),
+        rows_of(&[0, 3], &[4, 8], &[1, 1]),
+        Row {
+            start: 7,
+            end: 1,
+            mark: 0,
+        },
+        8,
+        0,
+    )
 }
 
 pub fn all() -> Group {
-    let mut g = session(no_cases());
+    let mut g = session(Group::default());
     g = raised(g);
     g = each_alone(g);
     g = counts(g);

@@ -1,13 +1,14 @@
 // What a call is to give, by request 7 of paper 02: refusals and rows looked at by code of the trial's own, plans by the brute force.
-use crate::drawn::{Drawn, Lists, Rows, Table};
-use crate::lists::{put_byte, put_word};
+use crate::drawn::{Drawn, Lists, Table};
+use crate::lists::put;
 use brute_force::plans::Found;
 use brute_force::windows;
+use brute_force::windows::Day;
 use candidates_calls::Report;
 use window::Row;
 
-// What a candidate is answered.
-#[derive(Clone, Copy)]
+// What a candidate is answered: a refusal's number, 0 for accepted, and a count, 0 on a refusal.
+#[derive(Clone, Copy, Default, PartialEq, Eq)]
 pub struct Tried {
     pub number: u8,
     pub count: u8,
@@ -17,88 +18,66 @@ pub struct Tried {
 #[derive(Clone, Copy)]
 pub struct Expected {
     pub report: Report,
-    pub numbers: [u8; 8],
-    pub counts: [u8; 8],
+    pub tried: [Tried; 8],
 }
 
 // ---- the brute force
 
-fn kind_of(run: bool) -> windows::Kind {
-    if run {
-        windows::Kind::Run
-    } else {
-        windows::Kind::Round
+impl Table {
+    fn day(self) -> Day {
+        Day {
+            kind: if self.run {
+                windows::Kind::Run
+            } else {
+                windows::Kind::Round
+            },
+            ticks: self.ticks,
+            gap: self.gap,
+        }
+    }
+
+    // The table alone.
+    pub fn found_alone(self) -> Found {
+        found_in(self, self.rows)
+    }
+
+    // The table with the row, as it is, added as its last.
+    pub fn found_with(self, row: Row) -> Found {
+        let mut list = self.list;
+        put(&mut list, self.rows, row);
+        found_in(Table { list, ..self }, self.rows.wrapping_add(1))
     }
 }
 
-// The table with the row added as its last, which makes so many rows.
-fn found_in(t: Table, row: Row, rows: usize) -> Found {
-    let list = t.list;
-    let mut starts = list.starts;
-    let mut ends = list.ends;
-    let mut marks = list.marks;
-    put_word(&mut starts, t.rows, row.start);
-    put_word(&mut ends, t.rows, row.end);
-    put_byte(&mut marks, t.rows, row.mark);
-    let hours = t.hours;
-    brute_force::best_plan(
-        kind_of(t.run),
-        t.ticks,
-        t.gap,
-        rows,
-        &starts,
-        &ends,
-        &marks,
-        [[hours[0], hours[1]], [hours[2], hours[3]]],
-    )
+fn row_of(row: Row) -> windows::Row {
+    windows::Row {
+        window: windows::Window {
+            start: row.start,
+            end: row.end,
+        },
+        mark: row.mark,
+    }
 }
 
-// The table alone.
-pub fn found_alone(t: Table) -> Found {
-    let row = Row {
-        start: 0,
-        end: 1,
-        mark: 0,
-    };
-    found_in(t, row, t.rows)
-}
-
-// The table and the row as it is.
-pub fn found_with(t: Table, row: Row) -> Found {
-    found_in(t, row, std::num::wrapping_add_usize(t.rows, 1))
+// The first of the rows, so many.
+fn found_in(t: Table, rows: usize) -> Found {
+    brute_force::best_plan(t.day(), rows, &t.list.map(row_of), t.hours)
 }
 
 // ---- rows
 
-pub fn row_at(list: Rows, i: usize) -> Row {
-    let starts = list.starts;
-    let ends = list.ends;
-    let marks = list.marks;
-    if i < 8 {
-        return Row {
-            start: starts[i],
-            end: ends[i],
-            mark: marks[i],
-        };
-    }
-    Row {
-        start: 0,
-        end: 0,
-        mark: 0,
-    }
-}
-
 // "In a round, start and end are both below R", and may be equal (request 3); "in a run, start is below end and end is at most R".
-fn is_window(run: bool, ticks: u16, start: u16, end: u16) -> bool {
-    if run {
-        return start < end && end <= ticks;
+fn is_window(t: Table, row: Row) -> bool {
+    if t.run {
+        row.start < row.end && row.end <= t.ticks
+    } else {
+        row.start < t.ticks && row.end < t.ticks
     }
-    start < ticks && end < ticks
 }
 
 // 6, then 7, which "begins at mark 6"; 0 for a row that passes.
 fn row_number(t: Table, row: Row) -> u8 {
-    if !is_window(t.run, t.ticks, row.start, row.end) {
+    if !is_window(t, row) {
         return 6;
     }
     if 5 < row.mark { 7 } else { 0 }
@@ -116,9 +95,8 @@ fn raised(mark: u8) -> u8 {
 
 pub fn must_row(row: Row) -> Row {
     Row {
-        start: row.start,
-        end: row.end,
         mark: raised(row.mark),
+        ..row
     }
 }
 
@@ -147,33 +125,30 @@ pub fn lists_number(l: Lists) -> u8 {
     }
 }
 
-fn are_hours(ticks: u16, p: u16, q: u16) -> bool {
+fn are_hours(ticks: u16, [p, q]: [u16; 2]) -> bool {
     p <= q && q <= ticks
 }
 
 // 4, 5 "(run only)", 14
 pub fn setting_number(t: Table) -> u8 {
-    let hours = t.hours;
+    let [first, second] = t.hours;
     if t.ticks < 2 || 43200 < t.ticks {
         return 4;
     }
-    if t.run {
-        if !are_hours(t.ticks, hours[0], hours[1]) || !are_hours(t.ticks, hours[2], hours[3]) {
-            return 5;
-        }
+    if t.run && (!are_hours(t.ticks, first) || !are_hours(t.ticks, second)) {
+        return 5;
     }
     if 600 < t.gap { 14 } else { 0 }
 }
 
 // The first of the rows that is refused: "If the table stops at row k it is k+1". Where none is, 0 and no rows.
 pub fn first_stop(t: Table) -> Report {
-    let list = t.list;
-    for i in 0..8 {
-        let number = row_number(t, row_at(list, i));
-        if i < t.rows && number != 0 {
+    for i in 0..t.rows.min(8) {
+        let number = row_number(t, t.list[i]);
+        if number != 0 {
             return Report {
                 number,
-                rows: std::num::wrapping_add_usize(i, 1),
+                rows: i + 1,
             };
         }
     }
@@ -182,70 +157,59 @@ pub fn first_stop(t: Table) -> Report {
 
 // 8, from what the brute force finds of the table alone. The rows that make a table full may be heard, so that it has a plan where the rows that were drawn have one.
 fn plan_number(t: Table) -> u8 {
-    let found = found_alone(t);
-    if found.answer == 0 { 8 } else { 0 }
+    if t.found_alone().plan.is_none() { 8 } else { 0 }
 }
 
 // Beside a full table "the reported count is 64".
 fn rows_looked(d: Drawn) -> usize {
-    let lent = d.lent;
-    if lent.starts == 64 {
-        return 64;
+    match d.lent.starts {
+        64 => 64,
+        rows => rows.wrapping_add(d.candidates),
     }
-    std::num::wrapping_add_usize(lent.starts, d.candidates)
 }
 
 // A table that passed the checks before its rows.
 fn report_on_rows(d: Drawn) -> Report {
-    let table = d.table;
-    let lent = d.lent;
-    let stop = first_stop(table);
+    let stop = first_stop(d.table);
     if stop.number != 0 {
         return stop;
     }
-    let number = plan_number(table);
-    if number != 0 {
-        return Report {
+    match plan_number(d.table) {
+        0 => Report {
+            number: 0,
+            rows: rows_looked(d),
+        },
+        number => Report {
             number,
-            rows: lent.starts,
-        };
-    }
-    Report {
-        number: 0,
-        rows: rows_looked(d),
+            rows: d.lent.starts,
+        },
     }
 }
 
 fn report_on(d: Drawn) -> Report {
-    let table = d.table;
-    let lent = d.lent;
-    let number = lists_number(lent);
-    if number != 0 {
-        return Report { number, rows: 0 };
+    let number = match lists_number(d.lent) {
+        0 => setting_number(d.table),
+        number => number,
+    };
+    match number {
+        0 => report_on_rows(d),
+        _ => Report { number, rows: 0 },
     }
-    let number2 = setting_number(table);
-    if number2 != 0 {
-        return Report {
-            number: number2,
-            rows: 0,
-        };
-    }
-    report_on_rows(d)
 }
 
 // ---- candidates
 
 // What the brute force finds, as an answer.
 pub fn answer(found: Found) -> Tried {
-    if found.answer == 0 {
-        return Tried {
+    match found.plan {
+        None => Tried {
             number: 8,
             count: 0,
-        };
-    }
-    Tried {
-        number: 0,
-        count: std::num::wrapping_sub_u8(found.answer, 1),
+        },
+        Some(plan) => Tried {
+            number: 0,
+            count: plan.heard,
+        },
     }
 }
 
@@ -257,31 +221,20 @@ fn tried_beside(t: Table, full: bool, row: Row) -> Tried {
             count: 0,
         };
     }
-    let number = row_number(t, row);
-    if number != 0 {
-        return Tried { number, count: 0 };
+    match row_number(t, row) {
+        0 => answer(t.found_with(must_row(row))),
+        number => Tried { number, count: 0 },
     }
-    answer(found_with(t, must_row(row)))
 }
 
 // A refused call answers no candidate.
 pub fn of_call(d: Drawn) -> Expected {
-    let table = d.table;
-    let list = d.list;
-    let lent = d.lent;
     let report = report_on(d);
-    let mut numbers = [0u8; 8];
-    let mut counts = [0u8; 8];
-    for j in 0..8 {
-        if report.number == 0 && j < d.candidates {
-            let tried = tried_beside(table, lent.starts == 64, row_at(list, j));
-            numbers[j] = tried.number;
-            counts[j] = tried.count;
+    let mut tried = [Tried::default(); 8];
+    if report.number == 0 {
+        for j in 0..d.candidates.min(8) {
+            tried[j] = tried_beside(d.table, d.lent.starts == 64, d.list[j]);
         }
     }
-    Expected {
-        report,
-        numbers,
-        counts,
-    }
+    Expected { report, tried }
 }

@@ -1,37 +1,24 @@
 // Lists of candidates and of answers, of every length on both sides of what is taken: "16, candidate and answer lists of unequal length or beyond 64".
-use crate::judged::round;
+use crate::judged::rows_of;
 use candidates_calls::{Lent, Report, is_tried};
-use trial_calls::{LENT_BYTES, first_bytes, first_words};
-use trial_report::{Group, no_cases, with_case};
+use table::{Setting, Table};
+use trial_calls::{LENT_BYTES, first};
+use trial_report::Group;
 
 // The numbers from `first` on.
 pub fn words_from(first: u16) -> [u16; 66] {
-    let mut list = [0u16; 66];
-    for i in 0..66 {
-        list[i] = std::num::wrapping_add_u16(first, i as u16);
-    }
-    list
+    std::array::from_fn(|i| first.wrapping_add(i as u16))
 }
 
 // Marks 0 to 6 over and over.
 pub fn marks_in_turn() -> [u8; 66] {
-    let mut list = [0u8; 66];
-    for i in 0..66 {
-        list[i] = (i % 7) as u8;
-    }
-    list
+    std::array::from_fn(|i| (i % 7) as u8)
 }
 
-// Another number at a place, if the list has it.
-pub fn put_word(list: &mut [u16], i: usize, word: u16) {
+// Another entry at a place, if the list has it.
+pub fn put<T: Copy>(list: &mut [T], i: usize, entry: T) {
     if i < list.len() {
-        list[i] = word;
-    }
-}
-
-pub fn put_byte(list: &mut [u8], i: usize, byte: u8) {
-    if i < list.len() {
-        list[i] = byte;
+        list[i] = entry;
     }
 }
 
@@ -52,13 +39,15 @@ fn with_places(p: Places, report: Report, numbers: &[u8], counts: &[u8]) -> bool
     let ends = words_from(1);
     let marks = marks_in_turn();
     is_tried(
-        round(100, 0),
-        &[3, 3, 30],
-        &[4, 4, 40],
-        &[1, 1, 0],
-        first_words(&starts, p.starts),
-        first_words(&ends, p.ends),
-        first_bytes(&marks, p.marks),
+        Table {
+            setting: Setting::round(100, 0),
+            rows: rows_of(&[3, 3, 30], &[4, 4, 40], &[1, 1, 0]),
+        },
+        rows_of(
+            first(&starts, p.starts),
+            first(&ends, p.ends),
+            first(&marks, p.marks),
+        ),
         Lent {
             numbers: p.numbers,
             counts: p.counts,
@@ -82,42 +71,26 @@ fn equal(n: usize) -> Places {
 
 // What each of 64 candidates is answered.
 fn answer_number(i: usize) -> u8 {
-    if i == 3 {
-        return 8;
+    match i {
+        3 => 8,
+        _ if i % 7 == 6 => 7,
+        _ => 0,
     }
-    if i % 7 == 6 { 7 } else { 0 }
 }
 
-fn numbers() -> [u8; 64] {
-    let mut list = [0u8; 64];
-    for i in 0..64 {
-        list[i] = answer_number(i);
-    }
-    list
-}
-
-fn counts() -> [u8; 64] {
-    let mut list = [0u8; 64];
-    for i in 0..64 {
-        list[i] = if answer_number(i) == 0 { 4 } else { 0 };
-    }
-    list
+fn answer_count(i: usize) -> u8 {
+    if answer_number(i) == 0 { 4 } else { 0 }
 }
 
 fn taken(group: Group, n: usize) -> Group {
-    let numbers = numbers();
-    let counts = counts();
+    let numbers: [u8; 64] = std::array::from_fn(answer_number);
+    let counts: [u8; 64] = std::array::from_fn(answer_count);
     let report = Report {
         number: 0,
-        rows: std::num::wrapping_add_usize(3, n),
+        rows: n.wrapping_add(3),
     };
-    let right = with_places(
-        equal(n),
-        report,
-        first_bytes(&numbers, n),
-        first_bytes(&counts, n),
-    );
-    with_case(group, right)
+    let right = with_places(equal(n), report, first(&numbers, n), first(&counts, n));
+    group.with_case(right)
 }
 
 fn not_taken(group: Group, p: Places) -> Group {
@@ -125,7 +98,7 @@ fn not_taken(group: Group, p: Places) -> Group {
         number: 16,
         rows: 0,
     };
-    with_case(group, with_places(p, report, &[], &[]))
+    group.with_case(with_places(p, report, &[], &[]))
 }
 
 // The lists are numbered from 0: one has m places, and the others have n.
@@ -149,7 +122,7 @@ fn unequal(group: Group, n: usize, m: usize) -> Group {
 }
 
 pub fn equally_long() -> Group {
-    let mut g = taken(no_cases(), 0);
+    let mut g = taken(Group::default(), 0);
     g = taken(g, 1);
     g = taken(g, 2);
     g = taken(g, 63);
@@ -159,7 +132,7 @@ pub fn equally_long() -> Group {
 }
 
 pub fn unequally_long() -> Group {
-    let mut g = unequal(no_cases(), 0, 1);
+    let mut g = unequal(Group::default(), 0, 1);
     g = unequal(g, 1, 0);
     g = unequal(g, 2, 1);
     g = unequal(g, 2, 3);

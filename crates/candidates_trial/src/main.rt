@@ -117,27 +117,24 @@ fn print_planned(rt: &impl Print, p: Planned) -> io::Result<()> {
 }
 
 fn print_answers(rt: &impl Print, a: Answers) -> io::Result<()> {
-    let planned = a.planned;
     print(rt, b"  candidates answered 0 ", a.heard)?;
     print(rt, b"    2 ", a.full)?;
     print(rt, b"    6 ", a.window)?;
     print(rt, b"    7 ", a.mark)?;
     print(rt, b"    8 ", a.no_plan)?;
     print(rt, b"    otherwise than the candidate before ", a.other)?;
-    print_planned(rt, planned)
+    print_planned(rt, a.planned)
 }
 
 fn print_random(rt: &impl Print) -> io::Result<()> {
     let tally = compared::all();
-    let calls = tally.calls;
-    let answers = tally.answers;
     print(
         rt,
         b"random calls, up to 6 rows and 4 candidates, beside brute force: ",
         CALLS,
     )?;
-    print_calls(rt, calls)?;
-    print_answers(rt, answers)?;
+    print_calls(rt, tally.calls)?;
+    print_answers(rt, tally.answers)?;
     print(rt, b"  differ ", tally.differ)
 }
 

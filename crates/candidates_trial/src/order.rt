@@ -1,10 +1,10 @@
 // Which of several faults of a call is reported: 1, 2, 3, 16, 4, 5, 14, then rows from 0, each for 6 and then 7, then 8.
-use crate::judged::{refused, refused_in, round, run};
+use crate::judged::{refused, refused_in, rows_of};
 use crate::lists::words_from;
 use candidates_calls::Lent;
 use table::Setting;
-use trial_calls::{first_bytes, first_words};
-use trial_report::{Group, no_cases};
+use trial_calls::{first, run};
+use trial_report::Group;
 
 // So many bytes of working space, two places for numbers and so many for counts.
 fn lent(bytes: usize, counts: usize) -> Lent {
@@ -28,20 +28,12 @@ fn faulty(
     mark: u8,
     number: u8,
 ) -> Group {
-    let rows = if number == 6 || number == 7 || number == 8 {
-        4
-    } else {
-        0
-    };
+    let rows = if matches!(number, 6..=8) { 4 } else { 0 };
     refused_in(
         group,
         run(ticks, gap, [[p, 10], [0, 10]]),
-        &[4, 4, 4, 3],
-        &[5, 5, 5, end],
-        &[1, 1, 1, mark],
-        &[3, 0],
-        &[3, 1],
-        &[9, 0],
+        rows_of(&[4, 4, 4, 3], &[5, 5, 5, end], &[1, 1, 1, mark]),
+        rows_of(&[3, 0], &[3, 1], &[9, 0]),
         lent(bytes, counts),
         number,
         rows,
@@ -94,10 +86,34 @@ fn table_and_another(group: Group) -> Group {
 
 // The row of the lower number is reported, whichever its fault: 10 is R, and 6 no mark.
 fn rows_in_order(group: Group) -> Group {
-    let mut g = refused(group, round(10, 0), &[1, 3], &[2, 10], &[6, 0], 7, 1);
-    g = refused(g, round(10, 0), &[3, 1], &[10, 2], &[0, 6], 6, 1);
-    g = refused(g, round(10, 0), &[0, 1, 3], &[1, 2, 10], &[0, 6, 0], 7, 2);
-    refused(g, round(10, 0), &[0, 3, 1], &[1, 10, 2], &[0, 0, 6], 6, 2)
+    let mut g = refused(
+        group,
+        Setting::round(10, 0),
+        rows_of(&[1, 3], &[2, 10], &[6, 0]),
+        7,
+        1,
+    );
+    g = refused(
+        g,
+        Setting::round(10, 0),
+        rows_of(&[3, 1], &[10, 2], &[0, 6]),
+        6,
+        1,
+    );
+    g = refused(
+        g,
+        Setting::round(10, 0),
+        rows_of(&[0, 1, 3], &[1, 2, 10], &[0, 6, 0]),
+        7,
+        2,
+    );
+    refused(
+        g,
+        Setting::round(10, 0),
+        rows_of(&[0, 3, 1], &[1, 10, 2], &[0, 0, 6]),
+        6,
+        2,
+    )
 }
 
 // So many rows 0–1, 1–2 and so on, with so many ends, and two candidates.
@@ -115,12 +131,12 @@ fn many(
     refused_in(
         group,
         setting,
-        first_words(&starts, rows),
-        first_words(&list, ends),
-        first_bytes(&[0; 66], rows),
-        &[3, 0],
-        &[3, 1],
-        &[9, 0],
+        rows_of(
+            first(&starts, rows),
+            first(&list, ends),
+            first(&[0; 66], rows),
+        ),
+        rows_of(&[3, 0], &[3, 1], &[9, 0]),
         lent(bytes, counts),
         number,
         0,
@@ -129,29 +145,35 @@ fn many(
 
 // 1 and 2, each with one later fault, and with several.
 fn lists(group: Group) -> Group {
-    let good = round(100, 0);
+    let good = Setting::round(100, 0);
     let mut g = many(group, good, 65, 64, 4608, 2, 1);
     g = many(g, good, 64, 65, 4608, 2, 1);
     g = many(g, good, 3, 2, 4607, 2, 1);
     g = many(g, good, 3, 2, 4608, 1, 1);
-    g = many(g, round(1, 0), 3, 4, 4608, 2, 1);
-    g = many(g, round(1, 601), 66, 65, 0, 1, 1);
+    g = many(g, Setting::round(1, 0), 3, 4, 4608, 2, 1);
+    g = many(g, Setting::round(1, 601), 66, 65, 0, 1, 1);
     g = many(g, good, 65, 65, 4607, 2, 2);
     g = many(g, good, 65, 65, 4608, 1, 2);
-    g = many(g, round(1, 0), 65, 65, 4608, 2, 2);
-    g = many(g, round(100, 601), 65, 65, 4608, 2, 2);
-    g = many(g, round(1, 601), 66, 66, 0, 1, 2);
+    g = many(g, Setting::round(1, 0), 65, 65, 4608, 2, 2);
+    g = many(g, Setting::round(100, 601), 65, 65, 4608, 2, 2);
+    g = many(g, Setting::round(1, 601), 66, 66, 0, 1, 2);
     g = many(g, good, 64, 64, 4607, 1, 3);
     many(g, good, 64, 64, 4608, 1, 16)
 }
 
 // Table lists of unequal lengths: each one shorter and longer than the others.
 fn table_lists(group: Group, starts: &[u16], ends: &[u16], marks: &[u8]) -> Group {
-    refused(group, round(100, 0), starts, ends, marks, 1, 0)
+    refused(
+        group,
+        Setting::round(100, 0),
+        rows_of(starts, ends, marks),
+        1,
+        0,
+    )
 }
 
 pub fn unequal_tables() -> Group {
-    let mut g = table_lists(no_cases(), &[10], &[20, 25], &[0, 0]);
+    let mut g = table_lists(Group::default(), &[10], &[20, 25], &[0, 0]);
     g = table_lists(g, &[10, 15, 20], &[20, 25], &[0, 0]);
     g = table_lists(g, &[10, 15], &[20], &[0, 0]);
     g = table_lists(g, &[10, 15], &[20, 25, 30], &[0, 0]);
@@ -162,7 +184,7 @@ pub fn unequal_tables() -> Group {
 }
 
 pub fn all() -> Group {
-    let mut g = lists(no_cases());
+    let mut g = lists(Group::default());
     g = with_all_later(g);
     g = lent_and_another(g);
     g = table_and_another(g);

@@ -2,26 +2,21 @@
 // both must still be below R, and a run refuses it as before. Such a window overlaps every other."
 // A call that is refused is judged to have left labels, working space and tape as they were, as each call is (`trial_calls`).
 use crate::edges::{round_row, run_row};
+use table::{Rows, Setting};
 use trial_calls::{in_round, is_taped};
-use trial_report::{Group, no_cases, with_case};
+use trial_report::Group;
 use window::Kind;
 
 // ---- rows that send all day alone
 
 // Three of them in a round of so many ticks, each starting at another tick or all at one.
 fn three_at(group: Group, ticks: u16, starts: &[u16]) -> Group {
-    with_case(
-        group,
-        in_round(ticks, 0, starts, starts, &[0, 0, 0], 0, &[1, 2, 0]),
-    )
+    group.with_case(in_round(ticks, 0, starts, starts, &[0, 0, 0], 0, &[1, 2, 0]))
 }
 
 // Three of them in a round of 10 ticks, with these marks.
 fn three(group: Group, marks: &[u8], number: u8, labels: &[u8]) -> Group {
-    with_case(
-        group,
-        in_round(10, 0, &[0, 4, 9], &[0, 4, 9], marks, number, labels),
-    )
+    group.with_case(in_round(10, 0, &[0, 4, 9], &[0, 4, 9], marks, number, labels))
 }
 
 // "Three of them alone in a round, with mark 0, give labels 1 2 0."
@@ -44,26 +39,20 @@ fn three_alone(group: Group) -> Group {
 
 // round 10: 4–4, 0–2, 6–8; the last two do not overlap
 fn beside_two(group: Group, marks: &[u8], number: u8, labels: &[u8]) -> Group {
-    with_case(
-        group,
-        in_round(10, 0, &[4, 0, 6], &[4, 2, 8], marks, number, labels),
-    )
+    group.with_case(in_round(10, 0, &[4, 0, 6], &[4, 2, 8], marks, number, labels))
 }
 
 // round 10: 4–4, 0–3, 2–5, 4–7, 6–9; of the last four each overlaps the next, so that they need both receivers
 fn beside_four(group: Group, mark: u8, labels: &[u8]) -> Group {
-    with_case(
-        group,
-        in_round(
-            10,
-            0,
-            &[4, 0, 2, 4, 6],
-            &[4, 3, 5, 7, 9],
-            &[mark, 0, 0, 0, 0],
-            0,
-            labels,
-        ),
-    )
+    group.with_case(in_round(
+        10,
+        0,
+        &[4, 0, 2, 4, 6],
+        &[4, 3, 5, 7, 9],
+        &[mark, 0, 0, 0, 0],
+        0,
+        labels,
+    ))
 }
 
 // It takes a receiver of its own, and is left out where that hears more.
@@ -76,10 +65,7 @@ fn beside_others(group: Group) -> Group {
     g = beside_four(g, 0, &[0, 1, 2, 1, 2]);
     g = beside_four(g, 1, &[1, 2, 0, 2, 0]);
     // round 2: 0–0, 0–1, 1–0
-    with_case(
-        g,
-        in_round(2, 0, &[0, 0, 1], &[0, 1, 0], &[0, 0, 0], 0, &[1, 2, 2]),
-    )
+    g.with_case(in_round(2, 0, &[0, 0, 1], &[0, 1, 0], &[0, 0, 0], 0, &[1, 2, 2]))
 }
 
 // Two all_day must rows, 4–4 and 7–7 in a round of 10 ticks, and a third row: it is not heard, and "any third must row" has no plan.
@@ -94,7 +80,7 @@ fn third(group: Group, start: u16, end: u16) -> Group {
         &[1, 2, 0],
     );
     let must = in_round(10, 0, &[4, 7, start], &[4, 7, end], &[1, 1, 1], 8, &[]);
-    with_case(with_case(group, may), must)
+    group.with_case(may).with_case(must)
 }
 
 // A third row that is one tick: before, at and after the others' starts; that is all ticks but one; that sends all day.
@@ -118,8 +104,8 @@ fn below_ticks(group: Group) -> Group {
     g = round_row(g, 100, 100, 0, 6, &[]);
     g = round_row(g, 100, 100, 1, 6, &[]);
     g = round_row(g, 65535, 65535, 0, 6, &[]);
-    g = with_case(g, in_round(2, 0, &[2], &[2], &[0], 6, &[]));
-    with_case(g, in_round(43200, 0, &[43200], &[43200], &[0], 6, &[]))
+    g = g.with_case(in_round(2, 0, &[2], &[2], &[0], 6, &[]));
+    g.with_case(in_round(43200, 0, &[43200], &[43200], &[0], 6, &[]))
 }
 
 // "A run refuses it as before."
@@ -138,9 +124,9 @@ fn in_order(group: Group) -> Group {
     g = round_row(g, 99, 99, 6, 7, &[]);
     g = round_row(g, 0, 0, 255, 7, &[]);
     g = run_row(g, 50, 50, 6, 6, &[]);
-    g = with_case(g, in_round(10, 0, &[4, 10], &[4, 10], &[0, 0], 6, &[]));
-    g = with_case(g, in_round(10, 0, &[4, 10], &[4, 10], &[6, 0], 7, &[]));
-    with_case(g, in_round(10, 0, &[10, 4], &[10, 4], &[0, 6], 6, &[]))
+    g = g.with_case(in_round(10, 0, &[4, 10], &[4, 10], &[0, 0], 6, &[]));
+    g = g.with_case(in_round(10, 0, &[4, 10], &[4, 10], &[6, 0], 7, &[]));
+    g.with_case(in_round(10, 0, &[10, 4], &[10, 4], &[0, 6], 6, &[]))
 }
 
 // ---- the plan tape writer
@@ -148,19 +134,18 @@ fn in_order(group: Group) -> Group {
 // Three rows of a round of 10 ticks: 4–4, 6 to `end`, and 9–9.
 fn taped(group: Group, end: u16, labels: &[u8], bytes: usize, number: u8, tape: &[u8]) -> Group {
     let right = is_taped(
-        Kind::Round,
-        10,
-        0,
-        [[0, 0], [0, 0]],
-        &[4, 6, 9],
-        &[4, end, 9],
-        &[0, 0, 0],
+        Setting::round(10, 0),
+        Rows {
+            starts: &[4, 6, 9],
+            ends: &[4, end, 9],
+            marks: &[0, 0, 0],
+        },
         labels,
         bytes,
         number,
         tape,
     );
-    with_case(group, right)
+    group.with_case(right)
 }
 
 // A LISTEN's end is its start: 4–4 alone, beside 6–8, and beside 9–9 on the other receiver.
@@ -190,19 +175,23 @@ fn not_a_plan(group: Group) -> Group {
 // Row s–s, which receiver 1 hears, with no room for the tape.
 fn offered(group: Group, kind: Kind, start: u16, mark: u8, number: u8) -> Group {
     let right = is_taped(
-        kind,
-        10,
-        0,
-        [[0, 10], [0, 10]],
-        &[start],
-        &[start],
-        &[mark],
+        Setting {
+            kind,
+            ticks: 10,
+            gap: 0,
+            hours: [[0, 10], [0, 10]],
+        },
+        Rows {
+            starts: &[start],
+            ends: &[start],
+            marks: &[mark],
+        },
         &[1],
         0,
         number,
         &[],
     );
-    with_case(group, right)
+    group.with_case(right)
 }
 
 // 6 and 7 as the planner gives them, then 9 for the wrong receiver and 10.
@@ -217,7 +206,7 @@ fn not_written(group: Group) -> Group {
 }
 
 pub fn all() -> Group {
-    let mut g = three_alone(no_cases());
+    let mut g = three_alone(Group::default());
     g = beside_others(g);
     g = thirds(g);
     g = below_ticks(g);

@@ -1,6 +1,6 @@
 // The cases P1 to P12 of paper 01's bench table, compiled and run.
 use trial_calls::{in_round, in_run};
-use trial_report::{Group, no_cases, with_case};
+use trial_report::Group;
 
 // round 100, no rows: count 0
 fn p1() -> bool {
@@ -60,21 +60,21 @@ fn p12() -> bool {
 }
 
 fn p1_to_p6() -> Group {
-    let mut g = no_cases();
-    g = with_case(g, p1());
-    g = with_case(g, p2(&[0, 0, 0, 0], 0, &[1, 2, 0, 1]));
-    g = with_case(g, p2(&[0, 0, 1, 0], 0, &[1, 0, 2, 1]));
-    g = with_case(g, p2(&[1, 1, 1, 0], 8, &[]));
-    g = with_case(g, p5(&[0, 0, 0], 0, &[1, 2, 0]));
-    with_case(g, p5(&[1, 1, 1], 8, &[]))
+    let mut g = Group::default();
+    g = g.with_case(p1());
+    g = g.with_case(p2(&[0, 0, 0, 0], 0, &[1, 2, 0, 1]));
+    g = g.with_case(p2(&[0, 0, 1, 0], 0, &[1, 0, 2, 1]));
+    g = g.with_case(p2(&[1, 1, 1, 0], 8, &[]));
+    g = g.with_case(p5(&[0, 0, 0], 0, &[1, 2, 0]));
+    g.with_case(p5(&[1, 1, 1], 8, &[]))
 }
 
 pub fn all() -> Group {
     let mut g = p1_to_p6();
-    g = with_case(g, p7());
-    g = with_case(g, p8());
-    g = with_case(g, p9(&[0, 0, 0], &[2, 0, 1]));
-    g = with_case(g, p9(&[0, 1, 0], &[0, 2, 1]));
-    g = with_case(g, p11());
-    with_case(g, p12())
+    g = g.with_case(p7());
+    g = g.with_case(p8());
+    g = g.with_case(p9(&[0, 0, 0], &[2, 0, 1]));
+    g = g.with_case(p9(&[0, 1, 0], &[0, 2, 1]));
+    g = g.with_case(p11());
+    g.with_case(p12())
 }

@@ -1,13 +1,14 @@
 // The edges of papers 01 and 02: R, the gap, rows, working space, ends, marks, hours, lists of unequal lengths.
-use trial_calls::{LENT_BYTES, first_bytes, first_words, in_round, in_run, is_planned};
-use trial_report::{Group, no_cases, with_case};
+use table::{Rows, Setting};
+use trial_calls::{LENT_BYTES, first, in_round, in_run, is_planned};
+use trial_report::Group;
 use window::Kind;
 
 // ---- R and the gap
 
 // A table of no rows, in a round and in a run that is open all the time.
 fn no_rows(group: Group, ticks: u16, gap: u16, number: u8) -> Group {
-    let g = with_case(group, in_round(ticks, gap, &[], &[], &[], number, &[]));
+    let g = group.with_case(in_round(ticks, gap, &[], &[], &[], number, &[]));
     let right = in_run(
         ticks,
         gap,
@@ -18,7 +19,7 @@ fn no_rows(group: Group, ticks: u16, gap: u16, number: u8) -> Group {
         number,
         &[],
     );
-    with_case(g, right)
+    g.with_case(right)
 }
 
 // The last tick of the longest day, and the rest of it: touching. With tick 0 in the first, they overlap.
@@ -47,9 +48,9 @@ fn ticks(group: Group) -> Group {
     g = no_rows(g, 43200, 0, 0);
     g = no_rows(g, 43201, 0, 4);
     g = no_rows(g, 65535, 0, 4);
-    g = with_case(g, longest_round(0, &[1, 1]));
-    g = with_case(g, longest_round(1, &[1, 2]));
-    with_case(g, longest_run())
+    g = g.with_case(longest_round(0, &[1, 1]));
+    g = g.with_case(longest_round(1, &[1, 2]));
+    g.with_case(longest_run())
 }
 
 // "14, g above 600, looked at after 5", so that an R that is refused comes before it.
@@ -66,10 +67,7 @@ fn gaps(group: Group) -> Group {
 
 // One row in a round of 100 ticks.
 pub fn round_row(group: Group, start: u16, end: u16, mark: u8, number: u8, labels: &[u8]) -> Group {
-    with_case(
-        group,
-        in_round(100, 0, &[start], &[end], &[mark], number, labels),
-    )
+    group.with_case(in_round(100, 0, &[start], &[end], &[mark], number, labels))
 }
 
 // One row in a run of 100 ticks, open all the time.
@@ -84,7 +82,7 @@ pub fn run_row(group: Group, start: u16, end: u16, mark: u8, number: u8, labels:
         number,
         labels,
     );
-    with_case(group, right)
+    group.with_case(right)
 }
 
 // "In a round, start and end are both below R"; where they are equal see `all_day`. End 0 means through tick R-1.
@@ -135,7 +133,7 @@ fn in_hours(group: Group, p1: u16, q1: u16, p2: u16, q2: u16, number: u8, labels
         number,
         labels,
     );
-    with_case(group, right)
+    group.with_case(right)
 }
 
 // "From p to q, with p at most q and q at most R."
@@ -162,19 +160,23 @@ fn open_hours(group: Group) -> Group {
 fn closed_hours(group: Group) -> Group {
     let none = in_run(100, 0, [[0, 0], [0, 0]], &[10], &[20], &[1], 8, &[]);
     let unused = is_planned(
-        Kind::Round,
-        100,
-        0,
-        [[9, 8], [200, 300]],
-        &[10],
-        &[20],
-        &[1],
+        Setting {
+            kind: Kind::Round,
+            ticks: 100,
+            gap: 0,
+            hours: [[9, 8], [200, 300]],
+        },
+        Rows {
+            starts: &[10],
+            ends: &[20],
+            marks: &[1],
+        },
         1,
         LENT_BYTES,
         0,
         &[1],
     );
-    with_case(with_case(group, none), unused)
+    group.with_case(none).with_case(unused)
 }
 
 // ---- rows and working space
@@ -219,19 +221,18 @@ fn many_rows(
     let marks = [0u8; 65];
     let labels = third_labels();
     let right = is_planned(
-        Kind::Round,
-        43200,
-        0,
-        [[0, 0], [0, 0]],
-        first_words(&starts, rows),
-        first_words(&list, ends),
-        first_bytes(&marks, rows),
+        Setting::round(43200, 0),
+        Rows {
+            starts: first(&starts, rows),
+            ends: first(&list, ends),
+            marks: first(&marks, rows),
+        },
         rows,
         bytes,
         number,
-        first_bytes(&labels, given),
+        first(&labels, given),
     );
-    with_case(group, right)
+    group.with_case(right)
 }
 
 // The table of 64 rows is planned, from 4,608 bytes as from any more (request 9); with 65 it is refused, and with unequal lists before that.
@@ -255,19 +256,18 @@ fn rows(group: Group) -> Group {
 // A table whose lists have two places, but for what is given.
 fn lists(group: Group, ends: &[u16], marks: &[u8], places: usize, number: u8) -> Group {
     let right = is_planned(
-        Kind::Round,
-        100,
-        0,
-        [[0, 0], [0, 0]],
-        &[10, 15],
-        ends,
-        marks,
+        Setting::round(100, 0),
+        Rows {
+            starts: &[10, 15],
+            ends,
+            marks,
+        },
         places,
         LENT_BYTES,
         number,
         &[],
     );
-    with_case(group, right)
+    group.with_case(right)
 }
 
 fn unequal_lists(group: Group) -> Group {
@@ -281,7 +281,7 @@ fn unequal_lists(group: Group) -> Group {
 }
 
 pub fn all() -> Group {
-    let mut g = no_cases();
+    let mut g = Group::default();
     g = ticks(g);
     g = gaps(g);
     g = round_windows(g);

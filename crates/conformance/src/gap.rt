@@ -2,8 +2,9 @@
 // gaps on both sides must do."
 // A call that is refused is judged to have left labels, working space and tape as they were, as each call is (`trial_calls`).
 use crate::tape_edges::labels;
+use table::{Rows, Setting};
 use trial_calls::{LENT_BYTES, in_round, is_planned, is_taped};
-use trial_report::{Group, no_cases, with_case};
+use trial_report::Group;
 use window::Kind;
 
 // ---- two windows
@@ -42,13 +43,17 @@ fn run(start: u16, end: u16, start2: u16, end2: u16) -> Pair {
 fn is_heard(p: Pair, gap: u16, mark: u8, mark2: u8, number: u8, labels: &[u8]) -> bool {
     let kind = p.kind;
     is_planned(
-        kind,
-        10,
-        gap,
-        [[0, 10], [0, 10]],
-        &[p.start, p.start2],
-        &[p.end, p.end2],
-        &[mark, mark2],
+        Setting {
+            kind,
+            ticks: 10,
+            gap,
+            hours: [[0, 10], [0, 10]],
+        },
+        Rows {
+            starts: &[p.start, p.start2],
+            ends: &[p.end, p.end2],
+            marks: &[mark, mark2],
+        },
         2,
         LENT_BYTES,
         number,
@@ -60,13 +65,17 @@ fn is_heard(p: Pair, gap: u16, mark: u8, mark2: u8, number: u8, labels: &[u8]) -
 fn is_written(p: Pair, gap: u16, label2: u8, bytes: usize, number: u8, tape: &[u8]) -> bool {
     let kind = p.kind;
     is_taped(
-        kind,
-        10,
-        gap,
-        [[0, 10], [0, 10]],
-        &[p.start, p.start2],
-        &[p.end, p.end2],
-        &[0, 0],
+        Setting {
+            kind,
+            ticks: 10,
+            gap,
+            hours: [[0, 10], [0, 10]],
+        },
+        Rows {
+            starts: &[p.start, p.start2],
+            ends: &[p.end, p.end2],
+            marks: &[0, 0],
+        },
         &[1, label2],
         bytes,
         number,
@@ -76,15 +85,15 @@ fn is_written(p: Pair, gap: u16, label2: u8, bytes: usize, number: u8, tape: &[u
 
 // With this gap receiver 1 hears both; with no room for the tape the writer gives 10.
 fn apart(group: Group, p: Pair, gap: u16) -> Group {
-    let g = with_case(group, is_heard(p, gap, 0, 0, 0, &[1, 1]));
-    with_case(g, is_written(p, gap, 1, 0, 10, &[]))
+    let g = group.with_case(is_heard(p, gap, 0, 0, 0, &[1, 1]));
+    g.with_case(is_written(p, gap, 1, 0, 10, &[]))
 }
 
 // With this gap each has a receiver of its own, and where receiver 1 must hear both there is no plan; both on receiver 1 give 9.
 fn close(group: Group, p: Pair, gap: u16) -> Group {
-    let mut g = with_case(group, is_heard(p, gap, 0, 0, 0, &[1, 2]));
-    g = with_case(g, is_heard(p, gap, 3, 3, 8, &[]));
-    with_case(g, is_written(p, gap, 1, 0, 9, &[]))
+    let mut g = group.with_case(is_heard(p, gap, 0, 0, 0, &[1, 2]));
+    g = g.with_case(is_heard(p, gap, 3, 3, 8, &[]));
+    g.with_case(is_written(p, gap, 1, 0, 9, &[]))
 }
 
 // They have so many ticks between them: a gap of as many is kept, "fewer than g" is too close.
@@ -128,14 +137,14 @@ fn pairs(group: Group) -> Group {
 // Marks 2 to 5: 0–4 and 4–8, which touch, with a gap of 1. Between the receivers nothing is owed: with the longest gap both must be heard, and so must 4–5 twice, "two windows".
 fn marks(group: Group) -> Group {
     let p = round(0, 4, 4, 8);
-    let mut g = with_case(group, is_heard(p, 1, 2, 2, 0, &[1, 0]));
-    g = with_case(g, is_heard(p, 1, 4, 4, 0, &[2, 0]));
-    g = with_case(g, is_heard(p, 1, 2, 3, 0, &[0, 1]));
-    g = with_case(g, is_heard(p, 1, 4, 5, 0, &[0, 2]));
-    g = with_case(g, is_heard(p, 1, 5, 5, 8, &[]));
-    g = with_case(g, is_heard(p, 1, 0, 3, 0, &[2, 1]));
-    g = with_case(g, is_heard(p, 600, 3, 5, 0, &[1, 2]));
-    with_case(g, is_heard(round(4, 5, 4, 5), 600, 1, 1, 0, &[1, 2]))
+    let mut g = group.with_case(is_heard(p, 1, 2, 2, 0, &[1, 0]));
+    g = g.with_case(is_heard(p, 1, 4, 4, 0, &[2, 0]));
+    g = g.with_case(is_heard(p, 1, 2, 3, 0, &[0, 1]));
+    g = g.with_case(is_heard(p, 1, 4, 5, 0, &[0, 2]));
+    g = g.with_case(is_heard(p, 1, 5, 5, 8, &[]));
+    g = g.with_case(is_heard(p, 1, 0, 3, 0, &[2, 1]));
+    g = g.with_case(is_heard(p, 600, 3, 5, 0, &[1, 2]));
+    g.with_case(is_heard(round(4, 5, 4, 5), 600, 1, 1, 0, &[1, 2]))
 }
 
 // "Labels that break the gap are no plan, for .. 9"; a tape has no gap on it. In a round 0–3 and 6–8 have 2 ticks over the end of the day, in a run 0–3 and 6–10 have 3 between them.
@@ -144,15 +153,15 @@ fn tapes(group: Group) -> Group {
     let one = b"\x10\x00\x0a\x20\x01\x30\x00\x00\x00\x00\x03\x30\x01\x00\x06\x00\x08\x20\x02\x7f";
     let two = b"\x10\x00\x0a\x20\x01\x30\x00\x00\x00\x00\x03\x20\x02\x30\x01\x00\x06\x00\x08\x7f";
     let first = b"\x10\x00\x0a\x20\x01\x30\x00\x00\x00\x00\x03\x20\x02\x7f";
-    let mut g = with_case(group, is_written(p, 2, 1, 400, 0, one));
-    g = with_case(g, is_written(p, 3, 1, 400, 9, &[]));
-    g = with_case(g, is_written(p, 600, 2, 400, 0, two));
-    g = with_case(g, is_written(p, 600, 0, 400, 0, first));
-    g = with_case(g, is_written(p, 601, 0, 400, 14, &[]));
+    let mut g = group.with_case(is_written(p, 2, 1, 400, 0, one));
+    g = g.with_case(is_written(p, 3, 1, 400, 9, &[]));
+    g = g.with_case(is_written(p, 600, 2, 400, 0, two));
+    g = g.with_case(is_written(p, 600, 0, 400, 0, first));
+    g = g.with_case(is_written(p, 601, 0, 400, 14, &[]));
     let q = run(0, 3, 6, 10);
     let both = b"\x11\x00\x0a\x20\x01\x30\x00\x00\x00\x00\x03\x30\x01\x00\x06\x00\x0a\x20\x02\x7f";
-    g = with_case(g, is_written(q, 3, 1, 400, 0, both));
-    with_case(g, is_written(q, 4, 1, 400, 9, &[]))
+    g = g.with_case(is_written(q, 3, 1, 400, 0, both));
+    g.with_case(is_written(q, 4, 1, 400, 9, &[]))
 }
 
 // ---- one window
@@ -160,19 +169,23 @@ fn tapes(group: Group) -> Group {
 // A row that must be heard, in a round or a run of 10 ticks. In the run receiver 1 is open for its window and no longer, and receiver 2 is closed.
 fn alone(group: Group, kind: Kind, gap: u16, start: u16, end: u16) -> Group {
     let right = is_planned(
-        kind,
-        10,
-        gap,
-        [[start, end], [0, 0]],
-        &[start],
-        &[end],
-        &[1],
+        Setting {
+            kind,
+            ticks: 10,
+            gap,
+            hours: [[start, end], [0, 0]],
+        },
+        Rows {
+            starts: &[start],
+            ends: &[end],
+            marks: &[1],
+        },
         1,
         LENT_BYTES,
         0,
         &[1],
     );
-    with_case(group, right)
+    group.with_case(right)
 }
 
 // "A window is never too close to itself", also where R less its length is below g. In a run nothing is owed to tick 0, to R or to the hours.
@@ -195,16 +208,13 @@ fn one_window(group: Group) -> Group {
 fn p2(group: Group, gap: u16, labels: &[u8]) -> Group {
     let starts = [10u16, 20, 25, 90];
     let ends = [30u16, 40, 50, 10];
-    with_case(
-        group,
-        in_round(100, gap, &starts, &ends, &[0, 0, 0, 0], 0, labels),
-    )
+    group.with_case(in_round(100, gap, &starts, &ends, &[0, 0, 0, 0], 0, labels))
 }
 
 // 4–4, which sends all day, 0–2 and 6–8 in a round of 10 ticks. The last two have 4 ticks between them within the day and 2 over its end.
 fn all_day(group: Group, gap: u16, mark: u8, labels: &[u8]) -> Group {
     let right = in_round(10, gap, &[4, 0, 6], &[4, 2, 8], &[mark, 0, 0], 0, labels);
-    with_case(group, right)
+    group.with_case(right)
 }
 
 // 0–2, 5–7 and 10 to `end` with this mark, in a round or a run of 12 ticks that is open all the time. There are 3 ticks before the second and before the third.
@@ -218,19 +228,23 @@ pub fn spaced(
     labels: &[u8],
 ) -> Group {
     let right = is_planned(
-        kind,
-        12,
-        gap,
-        [[0, 12], [0, 12]],
-        &[0, 5, 10],
-        &[2, 7, end],
-        &[mark, mark, mark],
+        Setting {
+            kind,
+            ticks: 12,
+            gap,
+            hours: [[0, 12], [0, 12]],
+        },
+        Rows {
+            starts: &[0, 5, 10],
+            ends: &[2, 7, end],
+            marks: &[mark, mark, mark],
+        },
         3,
         LENT_BYTES,
         number,
         labels,
     );
-    with_case(group, right)
+    group.with_case(right)
 }
 
 fn rows(group: Group) -> Group {
@@ -269,19 +283,23 @@ fn rows_64(group: Group, kind: Kind, ticks: u16, labels: &[u8]) -> Group {
     let ends = ticks_from(ticks);
     let marks = [0u8; 64];
     let right = is_planned(
-        kind,
-        43200,
-        600,
-        [[0, 43200], [0, 43200]],
-        &starts,
-        &ends,
-        &marks,
+        Setting {
+            kind,
+            ticks: 43200,
+            gap: 600,
+            hours: [[0, 43200], [0, 43200]],
+        },
+        Rows {
+            starts: &starts,
+            ends: &ends,
+            marks: &marks,
+        },
         64,
         LENT_BYTES,
         0,
         labels,
     );
-    with_case(group, right)
+    group.with_case(right)
 }
 
 // With 75 ticks each row has 600 between it and the next, in a round also over the end of the day, so that receiver 1 hears all. With 76 it has 599, and the receivers take turns.
@@ -294,7 +312,7 @@ fn longest(group: Group) -> Group {
 }
 
 pub fn all() -> Group {
-    let mut g = pairs(no_cases());
+    let mut g = pairs(Group::default());
     g = marks(g);
     g = tapes(g);
     g = one_window(g);

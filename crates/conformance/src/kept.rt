@@ -1,8 +1,8 @@
 // Labels and working space after each refusal of the planner and after a plan: the table of P2 with one fault each.
 // Every call is judged with both filled with a pattern before it, and with more bytes than the planner needs (but for refusal 3).
+use table::{Rows, Setting};
 use trial_calls::{LENT_BYTES, in_run, is_planned};
-use trial_report::{Group, no_cases, with_case};
-use window::Kind;
+use trial_report::Group;
 
 // P2 with another R, gap, mark of row 2, end of row 3, number of places for labels and of bytes.
 fn faulty(
@@ -16,13 +16,12 @@ fn faulty(
     labels: &[u8],
 ) -> bool {
     is_planned(
-        Kind::Round,
-        ticks,
-        gap,
-        [[0, 0], [0, 0]],
-        &[10, 20, 25, 90],
-        &[30, 40, 50, end],
-        &[1, 1, mark, 0],
+        Setting::round(ticks, gap),
+        Rows {
+            starts: &[10, 20, 25, 90],
+            ends: &[30, 40, 50, end],
+            marks: &[1, 1, mark, 0],
+        },
         places,
         bytes,
         number,
@@ -36,13 +35,12 @@ fn too_many() -> bool {
     let ends = [20u16; 65];
     let marks = [0u8; 65];
     is_planned(
-        Kind::Round,
-        100,
-        0,
-        [[0, 0], [0, 0]],
-        &starts,
-        &ends,
-        &marks,
+        Setting::round(100, 0),
+        Rows {
+            starts: &starts,
+            ends: &ends,
+            marks: &marks,
+        },
         65,
         LENT_BYTES,
         2,
@@ -66,21 +64,21 @@ fn in_hours(p: u16, gap: u16, mark: u8, number: u8, labels: &[u8]) -> bool {
 
 // Refusals 1 to 7 and 14 leave both as they were.
 fn untouched(group: Group) -> Group {
-    let mut g = with_case(group, faulty(100, 0, 0, 10, 5, LENT_BYTES, 1, &[]));
-    g = with_case(g, too_many());
-    g = with_case(g, faulty(100, 0, 0, 10, 4, 4607, 3, &[]));
-    g = with_case(g, faulty(43201, 0, 0, 10, 4, LENT_BYTES, 4, &[]));
-    g = with_case(g, in_hours(51, 0, 0, 5, &[]));
-    g = with_case(g, faulty(100, 601, 0, 10, 4, LENT_BYTES, 14, &[]));
-    g = with_case(g, in_hours(0, 601, 0, 14, &[]));
-    g = with_case(g, faulty(100, 0, 0, 100, 4, LENT_BYTES, 6, &[]));
-    with_case(g, faulty(100, 0, 6, 10, 4, LENT_BYTES, 7, &[]))
+    let mut g = group.with_case(faulty(100, 0, 0, 10, 5, LENT_BYTES, 1, &[]));
+    g = g.with_case(too_many());
+    g = g.with_case(faulty(100, 0, 0, 10, 4, 4607, 3, &[]));
+    g = g.with_case(faulty(43201, 0, 0, 10, 4, LENT_BYTES, 4, &[]));
+    g = g.with_case(in_hours(51, 0, 0, 5, &[]));
+    g = g.with_case(faulty(100, 601, 0, 10, 4, LENT_BYTES, 14, &[]));
+    g = g.with_case(in_hours(0, 601, 0, 14, &[]));
+    g = g.with_case(faulty(100, 0, 0, 100, 4, LENT_BYTES, 6, &[]));
+    g.with_case(faulty(100, 0, 6, 10, 4, LENT_BYTES, 7, &[]))
 }
 
 // P2, and with three rows that must be heard, which is refused 8, lent so many bytes.
 fn cleared_of(group: Group, bytes: usize) -> Group {
-    let g = with_case(group, faulty(100, 0, 1, 10, 4, bytes, 8, &[]));
-    with_case(g, faulty(100, 0, 0, 10, 4, bytes, 0, &[1, 2, 0, 1]))
+    let g = group.with_case(faulty(100, 0, 1, 10, 4, bytes, 8, &[]));
+    g.with_case(faulty(100, 0, 0, 10, 4, bytes, 0, &[1, 2, 0, 1]))
 }
 
 // A plan and refusal 8 clear the first 4,608 bytes and no others, however many are lent; refusal 8 leaves the labels as they were.
@@ -90,11 +88,11 @@ fn cleared(group: Group) -> Group {
     g = cleared_of(g, 4609);
     g = cleared_of(g, 16383);
     g = cleared_of(g, 16384);
-    g = with_case(g, in_hours(0, 0, 1, 8, &[]));
-    g = with_case(g, in_hours(0, 0, 5, 8, &[]));
-    with_case(g, in_hours(0, 0, 0, 0, &[1, 0]))
+    g = g.with_case(in_hours(0, 0, 1, 8, &[]));
+    g = g.with_case(in_hours(0, 0, 5, 8, &[]));
+    g.with_case(in_hours(0, 0, 0, 0, &[1, 0]))
 }
 
 pub fn all() -> Group {
-    cleared(untouched(no_cases()))
+    cleared(untouched(Group::default()))
 }

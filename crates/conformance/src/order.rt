@@ -1,42 +1,41 @@
 // Which of several faults of a call is reported: the order of refusals of the planner and of the plan tape writer.
-use trial_calls::{LENT_BYTES, first_words, in_round, is_planned, is_taped};
-use trial_report::{Group, no_cases, with_case};
+use table::{Rows, Setting};
+use trial_calls::{LENT_BYTES, first, in_round, is_planned, is_taped, run};
+use trial_report::Group;
 use window::Kind;
 
 // A table with a row of start and end 3 and mark 9, in a run with the hours p–10 and 0–10 and a gap.
 fn faulty(group: Group, ticks: u16, p: u16, gap: u16, bytes: usize, number: u8) -> Group {
     let right = is_planned(
-        Kind::Run,
-        ticks,
-        gap,
-        [[p, 10], [0, 10]],
-        &[3],
-        &[3],
-        &[9],
+        run(ticks, gap, [[p, 10], [0, 10]]),
+        Rows {
+            starts: &[3],
+            ends: &[3],
+            marks: &[9],
+        },
         1,
         bytes,
         number,
         &[],
     );
-    with_case(group, right)
+    group.with_case(right)
 }
 
 // The same table handed to the plan tape writer, with a label 3 and no room.
 fn faulty_taped(group: Group, ticks: u16, p: u16, gap: u16, number: u8) -> Group {
     let right = is_taped(
-        Kind::Run,
-        ticks,
-        gap,
-        [[p, 10], [0, 10]],
-        &[3],
-        &[3],
-        &[9],
+        run(ticks, gap, [[p, 10], [0, 10]]),
+        Rows {
+            starts: &[3],
+            ends: &[3],
+            marks: &[9],
+        },
         &[3],
         0,
         number,
         &[],
     );
-    with_case(group, right)
+    group.with_case(right)
 }
 
 // Four rows of a round of 10 ticks with a gap, three of which have no plan; the last is 3 to `end` with a mark.
@@ -50,14 +49,14 @@ fn rows_faulty(group: Group, gap: u16, end: u16, mark: u8, number: u8) -> Group 
         number,
         &[],
     );
-    with_case(group, right)
+    group.with_case(right)
 }
 
 // Row 0 has a mark above 5, row 1 an end at R; and the other way round. With a gap, and the numbers that this gives.
 fn rows_in_order(group: Group, gap: u16, mark: u8, window: u8) -> Group {
     let mark_first = in_round(10, gap, &[1, 3], &[2, 10], &[9, 0], mark, &[]);
     let window_first = in_round(10, gap, &[3, 1], &[10, 2], &[0, 9], window, &[]);
-    with_case(with_case(group, mark_first), window_first)
+    group.with_case(mark_first).with_case(window_first)
 }
 
 // "1, 2, 3, 4, 5, then rows from 0, each for 6 and then 7, then 8", and 14 "after 5": a fault each, and the later ones with it.
@@ -78,19 +77,18 @@ fn planner_order(group: Group) -> Group {
 // Rows 4–5 and 4 to `end` in a round of 10 ticks with a gap and these labels, handed to the writer with no room.
 fn taped(group: Group, gap: u16, end: u16, mark: u8, labels: &[u8], number: u8) -> Group {
     let right = is_taped(
-        Kind::Round,
-        10,
-        gap,
-        [[0, 0], [0, 0]],
-        &[4, 4],
-        &[5, end],
-        &[0, mark],
+        Setting::round(10, gap),
+        Rows {
+            starts: &[4, 4],
+            ends: &[5, end],
+            marks: &[0, mark],
+        },
         labels,
         0,
         number,
         &[],
     );
-    with_case(group, right)
+    group.with_case(right)
 }
 
 // "1, 2, 4, 5, rows for 6 and 7, 9, 10", and 14 after 5.
@@ -117,38 +115,19 @@ fn many(group: Group, ends: usize, number: u8) -> Group {
     let list = [3u16; 65];
     let marks = [9u8; 65];
     let labels = [3u8; 65];
-    let hours = [[0, 0], [0, 0]];
-    let planned = is_planned(
-        Kind::Round,
-        1,
-        601,
-        hours,
-        &starts,
-        first_words(&list, ends),
-        &marks,
-        65,
-        0,
-        number,
-        &[],
-    );
-    let written = is_taped(
-        Kind::Round,
-        1,
-        601,
-        hours,
-        &starts,
-        first_words(&list, ends),
-        &marks,
-        &labels,
-        0,
-        number,
-        &[],
-    );
-    with_case(with_case(group, planned), written)
+    let setting = Setting::round(1, 601);
+    let rows = Rows {
+        starts: &starts,
+        ends: first(&list, ends),
+        marks: &marks,
+    };
+    let planned = is_planned(setting, rows, 65, 0, number, &[]);
+    let written = is_taped(setting, rows, &labels, 0, number, &[]);
+    group.with_case(planned).with_case(written)
 }
 
 pub fn all() -> Group {
-    let mut g = no_cases();
+    let mut g = Group::default();
     g = planner_order(g);
     g = writer_order(g);
     g = many(g, 64, 1);

@@ -1,32 +1,23 @@
 // Marks 0 to 5 (request 2 of paper 02): the examples of the bench table, each mark on a row alone in rounds and runs, and labels offered to the plan tape writer.
+use table::{Rows, Setting};
 use trial_calls::{in_round, in_run, is_taped};
-use trial_report::{Group, no_cases, with_case};
-use window::Kind;
+use trial_report::Group;
 
 // ---- the examples
 
 // round 10: 0–2, 1–4, 3–6; the middle row overlaps both others
 fn middle(group: Group, marks: &[u8], labels: &[u8]) -> Group {
-    with_case(
-        group,
-        in_round(10, 0, &[0, 1, 3], &[2, 4, 6], marks, 0, labels),
-    )
+    group.with_case(in_round(10, 0, &[0, 1, 3], &[2, 4, 6], marks, 0, labels))
 }
 
 // round 10: 0–2, 4–6, 1–5; the last row overlaps both others
 fn last(group: Group, marks: &[u8], number: u8, labels: &[u8]) -> Group {
-    with_case(
-        group,
-        in_round(10, 0, &[0, 4, 1], &[2, 6, 5], marks, number, labels),
-    )
+    group.with_case(in_round(10, 0, &[0, 4, 1], &[2, 6, 5], marks, number, labels))
 }
 
 // round 10: 4–5 three times
 fn equal(group: Group, marks: &[u8], number: u8, labels: &[u8]) -> Group {
-    with_case(
-        group,
-        in_round(10, 0, &[4, 4, 4], &[5, 5, 5], marks, number, labels),
-    )
+    group.with_case(in_round(10, 0, &[4, 4, 4], &[5, 5, 5], marks, number, labels))
 }
 
 fn examples(group: Group) -> Group {
@@ -48,25 +39,22 @@ fn examples(group: Group) -> Group {
 
 // Row 10–20 with a mark, in a run of 100 ticks with the hours 0–q1 and 0–q2.
 fn alone(group: Group, q1: u16, q2: u16, mark: u8, number: u8, labels: &[u8]) -> Group {
-    with_case(
-        group,
-        in_run(
-            100,
-            0,
-            [[0, q1], [0, q2]],
-            &[10],
-            &[20],
-            &[mark],
-            number,
-            labels,
-        ),
-    )
+    group.with_case(in_run(
+        100,
+        0,
+        [[0, q1], [0, q2]],
+        &[10],
+        &[20],
+        &[mark],
+        number,
+        labels,
+    ))
 }
 
 // Both receivers open, in a run and in a round.
 fn open(group: Group, mark: u8, label: u8) -> Group {
     let round = in_round(100, 0, &[10], &[20], &[mark], 0, &[label]);
-    alone(with_case(group, round), 100, 100, mark, 0, &[label])
+    alone(group.with_case(round), 100, 100, mark, 0, &[label])
 }
 
 fn both_open(group: Group) -> Group {
@@ -102,19 +90,18 @@ fn receiver_2_closed(group: Group) -> Group {
 // Row 3–4 of a round of 10 ticks with a mark and a label.
 fn offered(group: Group, mark: u8, label: u8, number: u8, tape: &[u8]) -> Group {
     let right = is_taped(
-        Kind::Round,
-        10,
-        0,
-        [[0, 0], [0, 0]],
-        &[3],
-        &[4],
-        &[mark],
+        Setting::round(10, 0),
+        Rows {
+            starts: &[3],
+            ends: &[4],
+            marks: &[mark],
+        },
         &[label],
         400,
         number,
         tape,
     );
-    with_case(group, right)
+    group.with_case(right)
 }
 
 // A mark, and the numbers that the labels 0, 1 and 2 give. Where one is taken, the tape is that of any mark.
@@ -150,7 +137,7 @@ fn written(group: Group) -> Group {
 }
 
 pub fn all() -> Group {
-    let mut g = no_cases();
+    let mut g = Group::default();
     g = examples(g);
     g = both_open(g);
     g = receiver_1_closed(g);

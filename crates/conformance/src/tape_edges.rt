@@ -1,7 +1,8 @@
 // The plan tape writer at the edges of papers 01 and 02: R 1, 2, 43,200 and 43,201, a gap of 600 and 601, and the tape of 64 heard rows, than which none is longer.
 // The bytes expected of it are written out here or made by this file's loops: no product code makes them.
+use table::{Rows, Setting};
 use trial_calls::is_taped;
-use trial_report::{Group, with_case};
+use trial_report::Group;
 use window::Kind;
 
 // ---- R and the gap
@@ -9,13 +10,17 @@ use window::Kind;
 // No rows, open all the time, with room for a tape of no rows and not more.
 fn no_rows(kind: Kind, ticks: u16, gap: u16, number: u8, tape: &[u8]) -> bool {
     is_taped(
-        kind,
-        ticks,
-        gap,
-        [[0, ticks], [0, ticks]],
-        &[],
-        &[],
-        &[],
+        Setting {
+            kind,
+            ticks,
+            gap,
+            hours: [[0, ticks], [0, ticks]],
+        },
+        Rows {
+            starts: &[],
+            ends: &[],
+            marks: &[],
+        },
         &[],
         8,
         number,
@@ -24,28 +29,32 @@ fn no_rows(kind: Kind, ticks: u16, gap: u16, number: u8, tape: &[u8]) -> bool {
 }
 
 fn refused(group: Group, ticks: u16, gap: u16, number: u8) -> Group {
-    let g = with_case(group, no_rows(Kind::Round, ticks, gap, number, &[]));
-    with_case(g, no_rows(Kind::Run, ticks, gap, number, &[]))
+    let g = group.with_case(no_rows(Kind::Round, ticks, gap, number, &[]));
+    g.with_case(no_rows(Kind::Run, ticks, gap, number, &[]))
 }
 
 // R is these two bytes of the tape, which has no gap on it.
 fn taken(group: Group, ticks: u16, gap: u16, high: u8, low: u8) -> Group {
     let round = [0x10, high, low, 0x20, 0x01, 0x20, 0x02, 0x7F];
     let run = [0x11, high, low, 0x20, 0x01, 0x20, 0x02, 0x7F];
-    let g = with_case(group, no_rows(Kind::Round, ticks, gap, 0, &round));
-    with_case(g, no_rows(Kind::Run, ticks, gap, 0, &run))
+    let g = group.with_case(no_rows(Kind::Round, ticks, gap, 0, &round));
+    g.with_case(no_rows(Kind::Run, ticks, gap, 0, &run))
 }
 
 // One row, which receiver 2 hears.
 fn one_row(kind: Kind, ticks: u16, start: u16, end: u16, tape: &[u8]) -> bool {
     is_taped(
-        kind,
-        ticks,
-        0,
-        [[0, 0], [0, ticks]],
-        &[start],
-        &[end],
-        &[1],
+        Setting {
+            kind,
+            ticks,
+            gap: 0,
+            hours: [[0, 0], [0, ticks]],
+        },
+        Rows {
+            starts: &[start],
+            ends: &[end],
+            marks: &[1],
+        },
         &[2],
         14,
         0,
@@ -63,8 +72,8 @@ fn last_tick(group: Group, ticks: u16, high: u8, low: u8) -> Group {
     let run = [
         0x11, high, low, 0x20, 0x01, 0x20, 0x02, 0x30, 0x00, high, before, high, low, 0x7F,
     ];
-    let g = with_case(group, one_row(Kind::Round, ticks, start, 0, &round));
-    with_case(g, one_row(Kind::Run, ticks, start, ticks, &run))
+    let g = group.with_case(one_row(Kind::Round, ticks, start, 0, &round));
+    g.with_case(one_row(Kind::Run, ticks, start, ticks, &run))
 }
 
 fn ticks(group: Group) -> Group {
@@ -169,19 +178,23 @@ fn rows_64(group: Group, kind: Kind, gap: u16, bytes: usize, number: u8, tape: &
     let marks = [1u8; 64];
     let list = labels();
     let right = is_taped(
-        kind,
-        43200,
-        gap,
-        [[0, 43200], [0, 43200]],
-        &first,
-        &last,
-        &marks,
+        Setting {
+            kind,
+            ticks: 43200,
+            gap,
+            hours: [[0, 43200], [0, 43200]],
+        },
+        Rows {
+            starts: &first,
+            ends: &last,
+            marks: &marks,
+        },
         &list,
         bytes,
         number,
         tape,
     );
-    with_case(group, right)
+    group.with_case(right)
 }
 
 // It fits 392 bytes, and bytes after them are untouched; a buffer of 391 gives 10. With a gap the rows of one receiver are too close.

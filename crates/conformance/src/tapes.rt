@@ -1,25 +1,24 @@
 // The plan tape of paper 01's session, labels that the writer refuses and accepts, and the writer's edges.
 use crate::tape_edges::with_edges;
+use table::{Rows, Setting};
 use trial_calls::is_taped;
-use trial_report::{Group, no_cases, with_case};
-use window::Kind;
+use trial_report::Group;
 
 // The session's table, P2 of the bench table, with labels and so many bytes for the tape.
 fn p2(group: Group, marks: &[u8], labels: &[u8], bytes: usize, number: u8, tape: &[u8]) -> Group {
     let right = is_taped(
-        Kind::Round,
-        100,
-        0,
-        [[0, 0], [0, 0]],
-        &[10, 20, 25, 90],
-        &[30, 40, 50, 10],
-        marks,
+        Setting::round(100, 0),
+        Rows {
+            starts: &[10, 20, 25, 90],
+            ends: &[30, 40, 50, 10],
+            marks,
+        },
         labels,
         bytes,
         number,
         tape,
     );
-    with_case(group, right)
+    group.with_case(right)
 }
 
 // The session's labels and tape.
@@ -61,7 +60,7 @@ fn other_plans(group: Group) -> Group {
 }
 
 pub fn all() -> Group {
-    let mut g = no_cases();
+    let mut g = Group::default();
     g = session(g);
     g = not_a_plan(g);
     g = other_plans(g);

@@ -3,7 +3,7 @@
 // and a writer that does not look at the gap (`gap`).
 use crate::gap::spaced;
 use trial_calls::{in_round, in_run};
-use trial_report::{Group, no_cases, with_case};
+use trial_report::Group;
 use window::Kind;
 
 // "Counting at most two windows over each tick": no tick is in three of 0–4, 3–8, 7–1, so that method hears all three rows (P5),
@@ -11,7 +11,7 @@ use window::Kind;
 fn two_over_each_tick(group: Group) -> Group {
     let may = in_round(10, 0, &[0, 3, 7], &[4, 8, 1], &[0, 0, 0], 0, &[1, 2, 0]);
     let must = in_round(10, 0, &[0, 3, 7], &[4, 8, 1], &[1, 1, 1], 8, &[]);
-    with_case(with_case(group, may), must)
+    group.with_case(may).with_case(must)
 }
 
 // "Cutting the round at tick 0 and dropping what crosses it": of P2 that method gives 1 2 0 0, and no plan where row 3 is must.
@@ -20,7 +20,7 @@ fn dropped_at_tick_0(group: Group) -> Group {
     let ends = [30u16, 40, 50, 10];
     let may = in_round(100, 0, &starts, &ends, &[0, 0, 0, 0], 0, &[1, 2, 0, 1]);
     let must = in_round(100, 0, &starts, &ends, &[0, 0, 0, 1], 0, &[1, 2, 0, 1]);
-    with_case(with_case(group, may), must)
+    group.with_case(may).with_case(must)
 }
 
 // 10–20, 15–45, 40–60 in a run of 100 ticks: only the receiver that is open until 100 can take the last row, so the second row belongs on
@@ -42,10 +42,10 @@ fn uneven(hours: [[u16; 2]; 2], marks: &[u8], labels: &[u8]) -> bool {
 // That method puts the first row there and so the second on the other receiver: 1 2 0, or 2 1 0 where the tighter one is receiver 2.
 // Where all are must it finds no plan.
 fn tighter_receiver(group: Group) -> Group {
-    let mut g = with_case(group, uneven([[10, 50], [0, 100]], &[0, 0, 0], &[2, 1, 2]));
-    g = with_case(g, uneven([[10, 50], [0, 100]], &[1, 1, 1], &[2, 1, 2]));
-    g = with_case(g, uneven([[0, 100], [10, 50]], &[0, 0, 0], &[1, 2, 1]));
-    with_case(g, uneven([[0, 100], [10, 50]], &[1, 1, 1], &[1, 2, 1]))
+    let mut g = group.with_case(uneven([[10, 50], [0, 100]], &[0, 0, 0], &[2, 1, 2]));
+    g = g.with_case(uneven([[10, 50], [0, 100]], &[1, 1, 1], &[2, 1, 2]));
+    g = g.with_case(uneven([[0, 100], [10, 50]], &[0, 0, 0], &[1, 2, 1]));
+    g.with_case(uneven([[0, 100], [10, 50]], &[1, 1, 1], &[1, 2, 1]))
 }
 
 // 0–10, 20–30, 5–15, 12–22: all are heard if the first two rows are on different receivers.
@@ -69,7 +69,7 @@ fn four_rows(group: Group, marks: &[u8]) -> Group {
         0,
         &[1, 2, 2, 1],
     );
-    with_case(with_case(group, round), run)
+    group.with_case(round).with_case(run)
 }
 
 // "Placing must rows first by table order, then filling up": rows 0 and 1 do not overlap, so that method puts both on receiver 1,
@@ -83,7 +83,7 @@ fn must_rows_first(group: Group) -> Group {
 // In the four rows, all must, row 3 is blocked by rows 1 and 2.
 fn blocked_must_row(group: Group) -> Group {
     let right = in_round(10, 0, &[4, 4, 4], &[5, 5, 5], &[0, 0, 1], 0, &[1, 0, 2]);
-    four_rows(with_case(group, right), &[1, 1, 1, 1])
+    four_rows(group.with_case(right), &[1, 1, 1, 1])
 }
 
 // "A start equal to its end is an empty window", as before request 3 of paper 02: in a round of 10 ticks 4–4 overlaps neither 2–4 nor 4–6, so that method
@@ -91,14 +91,14 @@ fn blocked_must_row(group: Group) -> Group {
 fn taken_as_empty(group: Group) -> Group {
     let may = in_round(10, 0, &[4, 2, 4], &[4, 4, 6], &[0, 0, 0], 0, &[1, 2, 2]);
     let must = in_round(10, 0, &[4, 3, 4], &[4, 5, 6], &[1, 1, 1], 8, &[]);
-    with_case(with_case(group, may), must)
+    group.with_case(may).with_case(must)
 }
 
 // All ticks but the start: 4–4 does not overlap 4–5 then, so that method hears all of 4–4, 4–5 and 4–5, 1 1 2, and finds that plan where all are must.
 fn start_left_out(group: Group) -> Group {
     let may = in_round(10, 0, &[4, 4, 4], &[4, 5, 5], &[0, 0, 0], 0, &[1, 2, 0]);
     let must = in_round(10, 0, &[4, 4, 4], &[4, 5, 5], &[1, 1, 1], 8, &[]);
-    with_case(with_case(group, may), must)
+    group.with_case(may).with_case(must)
 }
 
 // Wrong meanings of the gap, on 0–2, 5–7 and 10–11 in a round and 10–12 in a run (`spaced`).
@@ -116,7 +116,7 @@ fn gaps(group: Group) -> Group {
 }
 
 pub fn all() -> Group {
-    let mut g = no_cases();
+    let mut g = Group::default();
     g = two_over_each_tick(g);
     g = dropped_at_tick_0(g);
     g = tighter_receiver(g);

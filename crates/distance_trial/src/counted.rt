@@ -3,11 +3,11 @@ ghost use Rattle.window.specs.Ticks.{Ticks};
 
 // The tick after `tick`, "going from R-1 to 0".
 fn after(ticks: u16, tick: u16) -> u16 {
-    let next = std::num::wrapping_add_u16(tick, 1);
+    let next = tick.wrapping_add(1);
     if next == ticks { 0 } else { next }
 }
 
-// The steps from `start` on to `tick`, counted; as many as there are ticks if it is not met on the way.
+// The steps from `start` on to `tick`, counted; if it is not met on the way, as many as there are ticks, which is no distance.
 pub fn steps(ticks: u16, start: u16, tick: u16) -> u16 {
     let mut at = start;
     for steps in 0..ticks {
@@ -23,6 +23,6 @@ pub fn steps(ticks: u16, start: u16, tick: u16) -> u16 {
 pub fn remainder(ticks: u16, start: u16, tick: u16) -> u16
     requires { Ticks ticks start tick }
 {
-    let sum = (tick as u32) + (ticks as u32) - (start as u32);
-    (sum % (ticks as u32)) as u16
+    let sum = u32::from(tick) + u32::from(ticks) - u32::from(start);
+    (sum % u32::from(ticks)) as u16
 }

@@ -2,8 +2,7 @@
 // It prints how often the tick was at, after and before the start, and how often the tick plus R was beyond 16 bits.
 #![tactic(auto)]
 
-ghost use Rattle.std.specs.Prelude.{◌<◌, ◌≤◌};
-ghost use Rattle.window.specs.Ticks.{Ticks};
+ghost use Rattle.std.specs.Prelude.{◌<◌, ◌≤◌, All, ℕ};
 
 mod compared;
 mod counted;
@@ -18,88 +17,46 @@ const LONGEST: u16 = 43200;
 // The longest R of which every two ticks are compared.
 const SHORT: u16 = 96;
 
-// Which ticks of a round are compared with each other, and with what.
-#[derive(Clone, Copy)]
-enum Chosen {
-    // Every tick, by steps.
-    Every,
-    // The first two, two in the middle and the last two, by the remainder.
-    Six,
-}
-
-// How many ticks of a round are chosen.
-fn how_many(chosen: Chosen, ticks: u16) -> u16 {
-    match chosen {
-        Chosen::Every => ticks,
-        Chosen::Six => 6,
-    }
-}
-
-// One of the six; in a short round some of them are the same.
-fn six(ticks: u16, i: u16) -> u16
-    requires { 2 ≤ ticks }
-    ensures { result < ticks }
-{
-    match i {
-        0 => 0,
-        1 => 1,
-        2 => ticks / 2 - 1,
-        3 => ticks / 2,
-        4 => ticks - 2,
-        _ => ticks - 1,
-    }
-}
-
-// One of the chosen ticks.
-fn tick_of(chosen: Chosen, ticks: u16, i: u16) -> u16
-    requires { 2 ≤ ticks }
-    ensures { result < ticks }
-{
-    match chosen {
-        Chosen::Every => if i < ticks { i } else { 0 },
-        Chosen::Six => six(ticks, i),
-    }
-}
-
-// What is expected of a tick and a start.
-fn expected(chosen: Chosen, ticks: u16, start: u16, tick: u16) -> u16
-    requires { Ticks ticks start tick }
-{
-    match chosen {
-        Chosen::Every => counted::steps(ticks, start, tick),
-        Chosen::Six => counted::remainder(ticks, start, tick),
-    }
-}
-
-// From a start on to each tick.
-fn from_start(before: Tally, chosen: Chosen, ticks: u16, start: u16) -> Tally
-    requires { (2 ≤ ticks) × (start < ticks) }
-{
+// From every tick of a round on to each, by steps.
+fn with_every(before: Tally, ticks: u16) -> Tally {
     let mut tally = before;
-    for i in 0..how_many(chosen, ticks) {
-        let tick = tick_of(chosen, ticks, i);
-        let far = expected(chosen, ticks, start, tick);
-        tally = compared::with_distance(tally, ticks, start, tick, far);
+    for start in 0..ticks {
+        for tick in 0..ticks {
+            tally = tally.with_distance(ticks, start, tick, counted::steps(ticks, start, tick));
+        }
     }
     tally
 }
 
-// From each start of a round.
-fn of_round(before: Tally, chosen: Chosen, ticks: u16) -> Tally
+// The first two ticks, two in the middle and the last two; in a short round some of them are the same.
+fn six(ticks: u16) -> [u16; 6]
+    requires { 2 ≤ ticks }
+    ensures { All (λ tick. tick < ticks) result }
+{
+    [0, 1, ticks / 2 - 1, ticks / 2, ticks - 2, ticks - 1]
+}
+
+// From these six on to each of them, by the remainder.
+fn with_six(before: Tally, ticks: u16) -> Tally
     requires { 2 ≤ ticks }
 {
     let mut tally = before;
-    for i in 0..how_many(chosen, ticks) {
-        tally = from_start(tally, chosen, ticks, tick_of(chosen, ticks, i));
+    let six = six(ticks);
+    for start in six {
+        for tick in six {
+            tally = tally.with_distance(ticks, start, tick, counted::remainder(ticks, start, tick));
+        }
     }
     tally
 }
 
 // Of each R from 2 on.
-fn of_rounds(chosen: Chosen, longest: u16) -> Tally {
-    let mut tally = compared::none();
+fn of_rounds<F: Fn(Tally, u16) -> Tally>(longest: u16, with_round: F) -> Tally
+    requires { (tally : Tally) (ticks : ℕ) → 2 ≤ ticks → F.pre with_round tally ticks }
+{
+    let mut tally = Tally::default();
     for ticks in 2..=longest {
-        tally = of_round(tally, chosen, ticks);
+        tally = with_round(tally, ticks);
     }
     tally
 }
@@ -116,13 +73,13 @@ fn main(rt: HostRuntime) -> io::Result<()> {
     print(
         &rt,
         b"every two ticks, by steps, of each R from 2 to ",
-        SHORT as u32,
+        u32::from(SHORT),
     )?;
-    print_tally(&rt, of_rounds(Chosen::Every, SHORT))?;
+    print_tally(&rt, of_rounds(SHORT, with_every))?;
     print(
         &rt,
         b"two of the first, middle and last ticks, by the remainder, of each R from 2 to ",
-        LONGEST as u32,
+        u32::from(LONGEST),
     )?;
-    print_tally(&rt, of_rounds(Chosen::Six, LONGEST))
+    print_tally(&rt, of_rounds(LONGEST, with_six))
 }

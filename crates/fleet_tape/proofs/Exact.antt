@@ -10,13 +10,11 @@ use borrow.Author.Tests.{le-leb, lt-leb, leb-true, eq-eqb}
 use lib.Dec.{leb}
 use lib.ListN.{length, take, drop, length-map}
 use lib.Seq.{take_at}
-use Rattle.refusals.specs.declared.Refusal.{Refusal}
 use Rattle.basics.proofs.Tests.{le_or_lt}
 use Rattle.basics.specs.Limits.{max_rows, Places, has_places}
 use Rattle.fleet_tape.specs.Demand.{IsFleetTape, rows_given, Stated, Demand2}
 use Rattle.window.specs.declared.Kind.{Kind}
-use Rattle.refusals.specs.declared.Refusal.TheVariants.{Accepted, Lists, Rows, Form}
-use Rattle.refusals.specs.Refusals.{number_of}
+use Rattle.refusals.specs.Refusals.{Outcome, Accepted, Lists, Rows, Form, number_of}
 use Rattle.window.specs.declared.Row.{Row}
 use Rattle.tape.specs.Words.{Bytes}
 use Rattle.fleet_tape.specs.Fleet.{fleet_tape, Fits, rows_of_lists, first_rows}
@@ -121,7 +119,7 @@ module _ (tape : List ℕ) {starts ends marks : List ℕ} (b : Bytes tape) (p : 
       ∙ ap (λ (r : Reading). r.report.refusal) (too_many p t.kind t.ticks t.hours t.rows t.fits (omega (arith, t.each)))
 
   -- two refusals with different numbers are not one
-  differ : {r s : Refusal} → out.report.refusal ≡ r → out.report.refusal ≡ s → number_of r ≡ number_of s
+  differ : {r s : Outcome} → out.report.refusal ≡ r → out.report.refusal ≡ s → number_of r ≡ number_of s
   differ e f = ap number_of (sym e ∙ f)
 
   stated_tape : Stated tape out → (n : ℕ) × (n ≤ max_rows) × IsFleetTape tape n
@@ -168,11 +166,6 @@ module _ (tape : List ℕ) {starts ends marks : List ℕ} (b : Bytes tape) (p : 
           (λ h. let z = differ e (few_accepted n h t) in omega arith)
           (λ h. let z = differ e (many_refused n h t) in omega arith)
           (le_or_lt n max_rows)
-
--- what the reader promises, from what it computes
-pub read_said : (tape : List ℕ) {starts ends marks : List ℕ} {out : Reading} → Bytes tape → out ≡ fleet_read tape starts ends marks
-    → (out ≡ fleet_read tape starts ends marks) × (Places starts ends marks → Demand2 tape out)
-read_said tape b e = (e, λ p. rw e (demand_2 tape b p))
 
 -- ---- whatever meets demand 2 answers as the reader does, and reports what the tape states
 

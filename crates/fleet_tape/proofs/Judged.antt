@@ -1,64 +1,71 @@
--- The answer to a tape, by what the reader has looked at: the head, and then the rows.
-use Prim.Native.Nat.{ℕ, ◌+◌, ◌≤◌, ◌<◌}
-use mathlib.Core.Path.{◌≡◌, refl}
-use mathlib.Core.Bool.{true, false}
-use mathlib.Core.List.{List}
-use mathlib.Core.Option.{Option, none, some}
-use native.Mathlib.Omega.{arith}
+-- What a tape states, by what its head is; and the answer to it, by that and its rows.
+use Rattle.std.proofs.Common.{ℕ, ◌+◌, ◌≤◌, ◌<◌, ◌≡◌, true, false, List, map, length, drop, arith}
+use Rattle.std.proofs.lemmas.List.{length-map, take_rest}
 use borrow.Author.Tests.{le-leb, lt-leb}
-use lib.ListN.{length, drop}
-use lib.Seq.{drop-drop}
-use Rattle.window.specs.declared.Kind.{Kind}
+use Rattle.std.proofs.Math.Option.{none}
+use Rattle.std.proofs.Math.Seq.{drop-drop}
 use Rattle.window.specs.declared.Kind.TheVariants.{Round, Run}
-use Rattle.refusals.specs.declared.Refusal.TheVariants.{Accepted, Lists, Rows, Form}
-use Rattle.tape.specs.Commands.{ROUND, RUN, HOURS, operand_bytes, begins}
-use Rattle.basics.specs.Limits.{has_places}
-use Rattle.fleet_tape.specs.declared.Report.{Report}
-use Rattle.fleet_tape.specs.declared.Scanned.TheVariants.{Count, Broken}
-use Rattle.window.specs.declared.Row.{Row}
+use Rattle.window.specs.declared.Kind.{Kind}
 use Rattle.window.specs.Rows.{starts_of, ends_of, marks_of}
-use Rattle.fleet_tape.specs.Form.{hours_of, rows_in, stated, fleet_of}
 use Rattle.window.specs.Hours.{no_hours}
-use Rattle.fleet_tape.specs.Scan.{counted, listed}
-use Rattle.fleet_tape.specs.Reading.{Reading, reading, refused, taken, judged, fleet_read}
+use Rattle.basics.specs.Limits.{max_rows, has_places}
 use Rattle.basics.specs.Lists.{front}
+use Rattle.refusals.specs.Refusals.{Accepted, Lists, Rows, Form}
+use Rattle.tape.specs.Commands.{ROUND, RUN, HOURS, operand_bytes, begins, past}
 use Rattle.tape.specs.Words.{word_at}
-use Rattle.tape.proofs.Heads.{begins_iff, begins_at}
+use Rattle.tape.proofs.Heads.{begins_at}
+use Rattle.fleet_tape.specs.Form.{hours_of, rows_in, stated, fleet_of}
+use Rattle.fleet_tape.specs.Scan.{row_of, RowsOf}
+use Rattle.fleet_tape.specs.Reading.{Reading, reading, refused, taken, judged, fleet_read}
 
--- ---- the rows
+-- a command that begins at a place ends on the tape
+past_fits : (s : List ℕ) (c at : ℕ) → begins c (drop at s) ≡ true → past c at ≤ length s
+past_fits s c at e = omega (arith, (begins_at s at c e).0)
 
-pub reading_same : {r r' : Report} {s s' e e' m m' : List ℕ} → r ≡ r' → s ≡ s' → e ≡ e' → m ≡ m' → reading r s e m ≡ reading r' s' e' m'
-reading_same p q f g = λ i. reading (p i) (q i) (f i) (g i)
+module _ (s : List ℕ) where
+  module _ (b : begins ROUND s ≡ true) where
+    pub round_fits : past ROUND 0 ≤ length s
+    round_fits = past_fits s ROUND 0 b
 
-module _ (kind : Kind) (R : ℕ) (hours : List (List ℕ)) (starts ends marks : List ℕ) where
-  abbrev answer : Option (List Row) → Reading
-  answer o = judged (stated kind R hours o) starts ends marks
+    pub round_ticks : 2 < length s
+    unfolding operand_bytes
+    round_ticks = round_fits
 
-  pub read_broken : (o : Option (List Row)) → counted o ≡ Broken → answer o ≡ reading (refused Form) starts ends marks
-  unfolding judged
-  read_broken none e = refl
-  read_broken (some rows) e = let z : ◌≡◌ {A = ℕ} 0 1 = cc in absurd (omega arith)
+    pub round_head : fleet_of s ≡ stated Round (word_at s 1) no_hours (rows_in (drop (past ROUND 0) s))
+    unfolding fleet_of operand_bytes
+    round_head = rw b
 
-  pub read_many : (o : Option (List Row)) (n : ℕ) → counted o ≡ Count n → 64 < n → answer o ≡ reading (refused Rows) starts ends marks
-  unfolding judged
-  read_many none n e h = let z : ◌≡◌ {A = ℕ} 0 1 = cc in absurd (omega arith)
-  read_many (some rows) n e h = let z : length rows ≡ n = cc in rw (lt-leb (length rows) 64 (omega arith))
+  pub run_ticks : begins RUN s ≡ true → 2 < length s
+  unfolding operand_bytes
+  run_ticks b = past_fits s RUN 0 b
 
-  pub read_taken : (o : Option (List Row)) (n : ℕ) → counted o ≡ Count n → n ≤ 64
-      → answer o ≡ reading (record { refusal = Accepted; kind = kind; ticks = R; hours = hours; rows = n }) (front (starts_of (listed o)) starts) (front (ends_of (listed o)) ends) (front (marks_of (listed o)) marks)
-  unfolding judged taken
-  read_taken none n e h = let z : ◌≡◌ {A = ℕ} 0 1 = cc in absurd (omega arith)
-  read_taken (some rows) n e h = let z : length rows ≡ n = cc in rw (le-leb (length rows) 64 (omega arith), z)
+  module _ (h : begins HOURS (drop (past RUN 0) s) ≡ true) where
+    pub hours_fit : past HOURS (past RUN 0) ≤ length s
+    hours_fit = past_fits s HOURS (past RUN 0) h
 
--- ---- the head
+    pub hours_inside : past RUN 0 + 8 < length s
+    unfolding operand_bytes
+    hours_inside = hours_fit
 
--- R stands on the tape, after ROUND and after RUN
-pub ticks_fit : (c : ℕ) (s : List ℕ) → operand_bytes c ≡ 2 → begins c s ≡ true → 2 < length s
-ticks_fit c s w e = rw w at ((begins_iff c s).0 e).0
+  module _ (n : begins ROUND s ≡ false) where
+    pub no_head : begins RUN s ≡ false → fleet_of s ≡ none
+    unfolding fleet_of
+    no_head b = rw (n, b)
 
-pub hours_fit : (s : List ℕ) (at : ℕ) → begins HOURS (drop at s) ≡ true → at + 8 < length s
-unfolding operand_bytes
-hours_fit s at e = (begins_at s at HOURS e).0
+    module _ (b : begins RUN s ≡ true) where
+      pub no_hours_head : begins HOURS (drop (past RUN 0) s) ≡ false → fleet_of s ≡ none
+      unfolding fleet_of operand_bytes
+      no_hours_head h = rw (n, b, h)
+
+      pub run_head : begins HOURS (drop (past RUN 0) s) ≡ true
+          → fleet_of s ≡ stated Run (word_at s 1) (hours_of (drop (past RUN 0) s)) (rows_in (drop (past HOURS (past RUN 0)) s))
+      unfolding fleet_of operand_bytes
+      run_head h = rw (n, b, h, drop-drop 9 3 s)
+
+-- what the tests of the head tell
+pub ruleset heads = (round_fits, round_ticks, round_head, run_ticks, hours_fit, hours_inside, no_head, no_hours_head, run_head, take_rest)
+
+-- ---- the answer
 
 module _ (tape starts ends marks : List ℕ) where
   abbrev call : Reading
@@ -69,27 +76,24 @@ module _ (tape starts ends marks : List ℕ) where
   read_unplaced p = rw p
 
   module _ (p : has_places (length starts) (length ends) (length marks) ≡ true) where
-    read_placed : (o : Option _) → fleet_of tape ≡ o → call ≡ judged o starts ends marks
-    unfolding fleet_read
-    read_placed o e = rw (p, e)
+    pub read_headless : fleet_of tape ≡ none → call ≡ reading (refused Form) starts ends marks
+    unfolding fleet_read judged
+    read_headless e = rw (p, e)
 
-    pub read_round : (R width : ℕ) → begins ROUND tape ≡ true → R ≡ word_at tape 1 → width ≡ operand_bytes ROUND
-        → call ≡ judged (stated Round R no_hours (rows_in (drop (1 + width) tape))) starts ends marks
-    unfolding fleet_of operand_bytes
-    read_round R width b r w = rw (r, w) (read_placed _ (rw b))
+    module _ (kind : Kind) (R : ℕ) (hours : List (List ℕ)) (rest : List ℕ) (e : fleet_of tape ≡ stated kind R hours (rows_in rest)) where
+      pub read_broken : rows_in rest ≡ none → call ≡ reading (refused Form) starts ends marks
+      unfolding fleet_read judged
+      read_broken r = rw (p, e, r)
 
-    module _ (n : begins ROUND tape ≡ false) where
-      pub read_neither : begins RUN tape ≡ false → call ≡ reading (refused Form) starts ends marks
-      unfolding fleet_of judged
-      read_neither b = read_placed none (rw (n, b))
+      module _ (rows : List (List ℕ)) (r : RowsOf rest rows) where
+        pub read_many : max_rows < length rows → call ≡ reading (refused Rows) starts ends marks
+        unfolding fleet_read judged
+        read_many h = rw (p, e, r.read, length-map rows row_of, lt-leb (length rows) 64 h)
 
-      module _ (b : begins RUN tape ≡ true) (width : ℕ) (w : width ≡ operand_bytes RUN) where
-        pub read_no_hours : begins HOURS (drop (1 + width) tape) ≡ false → call ≡ reading (refused Form) starts ends marks
-        unfolding fleet_of judged operand_bytes
-        read_no_hours h = read_placed none (rw (n, b, rw w at h))
+        pub read_taken : length rows ≤ max_rows
+            → call ≡ reading (record { refusal = Accepted; kind = kind; ticks = R; hours = hours; rows = length rows }) (front (starts_of (map row_of rows)) starts) (front (ends_of (map row_of rows)) ends) (front (marks_of (map row_of rows)) marks)
+        unfolding fleet_read judged taken
+        read_taken h = rw (p, e, r.read, length-map rows row_of, le-leb (length rows) 64 h)
 
-        pub read_run : begins HOURS (drop (1 + width) tape) ≡ true → (R : ℕ) (hours : List (List ℕ)) (width' : ℕ)
-            → R ≡ word_at tape 1 → hours ≡ hours_of (drop (1 + width) tape) → width' ≡ operand_bytes HOURS
-            → call ≡ judged (stated Run R hours (rows_in (drop (1 + width + 1 + width') tape))) starts ends marks
-        unfolding fleet_of operand_bytes
-        read_run h R hours width' r g v = rw (v, g, r, w) (read_placed _ (rw (n, b, rw w at h, drop-drop 9 3 tape)))
+-- and those of the lists and the rows
+pub ruleset answers = (read_unplaced, read_headless, read_broken, read_many, read_taken)

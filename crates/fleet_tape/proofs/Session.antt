@@ -3,9 +3,8 @@ use Prim.Native.Nat.{ℕ}
 use mathlib.Core.Path.{◌≡◌, refl}
 use mathlib.Core.List.{List, [], ◌∷◌, ◌++◌}
 use lib.ListN.{replicate}
-use Rattle.refusals.specs.declared.Refusal.{Refusal}
 use Rattle.window.specs.declared.Kind.TheVariants.{Round, Run}
-use Rattle.refusals.specs.declared.Refusal.TheVariants.{Accepted, Lists, Rows, Form}
+use Rattle.refusals.specs.Refusals.{Outcome, Accepted, Lists, Rows, Form}
 use Rattle.window.specs.Rows.{row}
 use Rattle.fleet_tape.specs.Fleet.{fleet_tape}
 use Rattle.window.specs.Hours.{no_hours}
@@ -62,7 +61,7 @@ unfolding fleet_read
 run_read = refl
 
 -- "A refusal reports kind round and zeros", and the lists, which hold 7, 8 and 9, are untouched
-abbrev none : Refusal → ℕ → ℕ → ℕ → Reading
+abbrev none : Outcome → ℕ → ℕ → ℕ → Reading
 none r n m l = reading (record { refusal = r; kind = Round; ticks = 0; hours = (0 ∷ 0 ∷ []) ∷ (0 ∷ 0 ∷ []) ∷ []; rows = 0 }) (replicate n 7) (replicate m 8) (replicate l 9)
 
 -- the call, with lists of so many places

@@ -3,7 +3,7 @@ use Rattle.std.specs.Prelude.{ℕ, ◌≤◌, ◌<◌, ◌≡◌, ◌↔◌, Lis
 use Rattle.basics.specs.Limits.{max_rows}
 use Rattle.window.specs.declared.Kind.{Kind}
 use Rattle.window.specs.declared.Row.{Row}
-use Rattle.refusals.specs.declared.Refusal.TheVariants.{Accepted, Rows, Form}
+use Rattle.refusals.specs.Refusals.{Accepted, Rows, Form}
 use Rattle.fleet_tape.specs.Fleet.{fleet_tape, Fits, first_rows}
 use Rattle.fleet_tape.specs.Reading.{Reading}
 

@@ -1,15 +1,24 @@
 -- Believed: The right answer of a call of the fleet tape reader, whole: the report and what the three lists then hold, on every input.
-use Rattle.std.specs.Prelude.{ℕ, cond, List, leb, length}
+use Rattle.std.specs.Prelude.{ℕ, cond, List, leb, length, Result, Ok, Err}
 use Rattle.std.proofs.Math.Option.{Option, none, some}
 use Rattle.basics.specs.Limits.{max_rows, has_places}
 use Rattle.basics.specs.Lists.{front}
+use Rattle.window.specs.declared.Kind.{Kind}
 use Rattle.window.specs.declared.Kind.TheVariants.{Round}
 use Rattle.refusals.specs.declared.Refusal.{Refusal}
-use Rattle.refusals.specs.declared.Refusal.TheVariants.{Accepted, Lists, Rows, Form}
-use Rattle.fleet_tape.specs.declared.Report.{Report}
+use Rattle.refusals.specs.Refusals.{Outcome, Accepted, Lists, Rows, Form}
+use Rattle.fleet_tape.specs.declared.Report as told
 use Rattle.window.specs.Rows.{starts_of, ends_of, marks_of}
 use Rattle.fleet_tape.specs.Form.{Fleet, fleet_of}
 use Rattle.window.specs.Hours.{no_hours}
+
+-- what a call reports: accepted or refused, and "kind, R, hours (all 0 in a round) and rows"
+pub record Report : Type 0 where
+  pub refusal : Outcome
+  pub kind : Kind
+  pub ticks : ℕ
+  pub hours : List (List ℕ)
+  pub rows : ℕ
 
 -- what a call gives
 pub record Reading : Type 0 where
@@ -22,8 +31,13 @@ abbrev pub reading : Report → List ℕ → List ℕ → List ℕ → Reading
 reading report starts ends marks = record { report = report; starts = starts; ends = ends; marks = marks }
 
 -- "A refusal reports kind round and zeros."
-abbrev pub refused : Refusal → Report
+abbrev pub refused : Outcome → Report
 refused refusal = record { refusal = refusal; kind = Round; ticks = 0; hours = no_hours; rows = 0 }
+
+-- what a call reports that gives a report or a refusal
+abbrev pub report_of : Result told.Report Refusal → Report
+report_of (Ok r) = record { refusal = Accepted; kind = r.kind; ticks = r.ticks; hours = r.hours; rows = r.rows }
+report_of (Err e) = refused (Err e)
 
 -- "reports kind, R, hours (all 0 in a round) and rows"
 abbrev pub accepted : Fleet → Report

@@ -1,7 +1,9 @@
 // A decoder of fleet tapes for those whose bytes were changed: what they state is not known from how they were made.
 // It is written from papers 01 and 02 alone and shares nothing with the reader: it takes the number of rows from the tape's length, and a row's
 // command as two hexadecimal digits.
-use crate::made::{Head, Stated, at_most, nothing};
+use crate::made::Stated;
+use fleet_tape::Report;
+use window::Kind;
 
 const ROUND: u8 = 0x10;
 
@@ -18,93 +20,58 @@ fn byte_at(tape: &[u8], at: usize) -> u8 {
     if at < tape.len() { tape[at] } else { 0 }
 }
 
-fn word_of(high: u8, low: u8) -> u16 {
-    (high as u16) * 256 + (low as u16)
-}
-
 // The 16-bit operand that lies so many bytes after a place, high byte first.
 fn operand(tape: &[u8], at: usize, bytes: usize) -> u16 {
-    let high = std::num::wrapping_add_usize(at, bytes);
-    let low = std::num::wrapping_add_usize(high, 1);
-    word_of(byte_at(tape, high), byte_at(tape, low))
+    let high = at.wrapping_add(bytes);
+    let low = high.wrapping_add(1);
+    u16::from_be_bytes([byte_at(tape, high), byte_at(tape, low)])
 }
 
 // ---- the form
 
-// How many bytes stand before the rows: 3 in a round, 12 in a run; 0 if no head does.
-fn head_bytes(tape: &[u8]) -> usize {
-    if byte_at(tape, 0) == ROUND {
-        return 3;
+// What stands before the rows, and in how many bytes: 3 in a round, 12 in a run.
+fn head_of(tape: &[u8]) -> Option<(Kind, usize)> {
+    match byte_at(tape, 0) {
+        ROUND => Some((Kind::Round, 3)),
+        RUN if byte_at(tape, 3) == HOURS => Some((Kind::Run, 12)),
+        _ => None,
     }
-    if byte_at(tape, 0) != RUN {
-        return 0;
-    }
-    if byte_at(tape, 3) == HOURS { 12 } else { 0 }
 }
 
-// Whether head, rows of five bytes and STOP make up the tape.
-fn has_length(tape: &[u8], head: usize) -> bool {
-    if head == 0 {
-        return false;
+// How many rows of five bytes stand between the head and STOP, if nothing else does.
+fn rows_after(tape: &[u8], head: usize) -> Option<usize> {
+    let bytes = tape.len().checked_sub(head)?;
+    if bytes % 5 != 1 || byte_at(tape, tape.len() - 1) != STOP {
+        return None;
     }
-    if tape.len() <= head {
-        return false;
-    }
-    if (tape.len() - head) % 5 != 1 {
-        return false;
-    }
-    byte_at(tape, tape.len() - 1) == STOP
+    Some(bytes / 5)
 }
 
-// How many times five bytes stand after the head.
-fn rows_after(tape: &[u8], head: usize) -> usize {
-    if tape.len() <= head {
-        return 0;
-    }
-    (tape.len() - head) / 5
+// The place of a row's command.
+fn place_of(head: usize, row: usize) -> usize {
+    head.wrapping_add(row.wrapping_mul(5))
 }
 
 // The digit 4, and then the mark, 0 to 5.
 fn is_row(command: u8) -> bool {
-    if command / 16 != 4 {
-        return false;
-    }
-    command % 16 < 6
+    command / 16 == 4 && command % 16 < 6
 }
 
 // Whether each row begins with a command of 40 to 45.
 fn has_rows(tape: &[u8], head: usize, rows: usize) -> bool {
-    let mut at = head;
-    let mut row: usize = 0;
-    while row < rows {
-        if !is_row(byte_at(tape, at)) {
-            return false;
-        }
-        at = std::num::wrapping_add_usize(at, 5);
-        row += 1;
-    }
-    true
+    (0..rows).all(|row| is_row(byte_at(tape, place_of(head, row))))
 }
 
 // ---- what it states
 
 // Hours are all 0 in a round.
-fn head_stated(tape: &[u8]) -> Head {
-    if byte_at(tape, 0) == RUN {
-        let p1 = operand(tape, 3, 1);
-        let q1 = operand(tape, 3, 3);
-        let p2 = operand(tape, 3, 5);
-        let q2 = operand(tape, 3, 7);
-        return Head {
-            run: true,
-            ticks: operand(tape, 0, 1),
-            hours: [p1, q1, p2, q2],
-        };
-    }
-    Head {
-        run: false,
-        ticks: operand(tape, 0, 1),
-        hours: [0, 0, 0, 0],
+fn hours_stated(tape: &[u8], kind: Kind) -> [[u16; 2]; 2] {
+    match kind {
+        Kind::Round => [[0, 0], [0, 0]],
+        Kind::Run => [
+            [operand(tape, 3, 1), operand(tape, 3, 3)],
+            [operand(tape, 3, 5), operand(tape, 3, 7)],
+        ],
     }
 }
 
@@ -113,48 +80,32 @@ fn mark_stated(command: u8) -> u8 {
     command % 16
 }
 
-// Writes as many of the rows as the lists have places for.
-fn take_rows(
-    tape: &[u8],
-    head: usize,
-    rows: usize,
-    starts: &mut [u16; 65],
-    ends: &mut [u16; 65],
-    marks: &mut [u8; 65],
-) {
-    let n = at_most(rows, 65);
-    let mut at = head;
-    let mut row: usize = 0;
-    while row < n {
+// What a tape states; nothing if it is not of the form. As many of the rows are taken as the lists have places for.
+pub fn decode(tape: &[u8]) -> Option<Stated> {
+    let (kind, head) = head_of(tape)?;
+    let rows = rows_after(tape, head)?;
+    if !has_rows(tape, head, rows) {
+        return None;
+    }
+    let mut starts = [0; 65];
+    let mut ends = [0; 65];
+    let mut marks = [0; 65];
+    for row in 0..rows.min(65) {
+        let at = place_of(head, row);
         starts[row] = operand(tape, at, 1);
         ends[row] = operand(tape, at, 3);
         marks[row] = mark_stated(byte_at(tape, at));
-        at = std::num::wrapping_add_usize(at, 5);
-        row += 1;
     }
-}
-
-// What a tape states; nothing if it is not of the form.
-pub fn decode(tape: &[u8]) -> Stated {
-    let bytes = head_bytes(tape);
-    let rows = rows_after(tape, bytes);
-    if !has_length(tape, bytes) {
-        return nothing();
-    }
-    if !has_rows(tape, bytes, rows) {
-        return nothing();
-    }
-    let head = head_stated(tape);
-    let mut starts = [0u16; 65];
-    let mut ends = [0u16; 65];
-    let mut marks = [0u8; 65];
-    take_rows(tape, bytes, rows, &mut starts, &mut ends, &mut marks);
-    Stated {
-        of_form: true,
-        head,
+    let report = Report {
+        kind,
+        ticks: operand(tape, 0, 1),
+        hours: hours_stated(tape, kind),
         rows,
+    };
+    Some(Stated {
+        report,
         starts,
         ends,
         marks,
-    }
+    })
 }

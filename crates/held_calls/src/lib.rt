@@ -1,16 +1,17 @@
 // Calls of the held table, each judged whole: the refusal's number, the count, the numbers, every place of the four lists, every byte of the working space.
-// Product code has a part in each call: `refusals::number` gives the number of its refusal, and the numbers are of the held table's own type.
+// Product code has a part in each call: `u8::from` gives the number of its refusal, and the numbers are of the held table's own type.
 #![tactic(auto)]
 
 ghost use Rattle.std.specs.Prelude.{◌≡◌, true, ◌↔◌};
 ghost use Rattle.held_calls.specs.Judged.{Same};
 
-use held_table::{Changed, Numbers};
-use trial_calls::{BEFORE, LENT_BYTES, at_most};
+use held_table::Numbers;
+use refusals::Refusal;
+use trial_calls::{BEFORE, LENT_BYTES};
 use window::Row;
 
 // A held table as a trial keeps it: its numbers, and lists with two places more than a call is lent, so that a step beyond the lent ones is seen.
-#[derive(Clone, Copy)]
+#[derive(Clone, Copy, PartialEq, Eq)]
 pub struct Held {
     pub numbers: Numbers,
     pub starts: [u16; 66],
@@ -20,7 +21,7 @@ pub struct Held {
 }
 
 // What is called.
-#[derive(Clone, Copy)]
+#[derive(Clone, Copy, Debug, PartialEq, Eq)]
 pub enum Change {
     Add(Row),
     Withdraw(usize),
@@ -47,179 +48,90 @@ pub fn with_space(bytes: usize) -> Lent {
     }
 }
 
-// ---- two held tables compared
-
-// `check::same` for words.
-fn same(list: &[u16], list2: &[u16]) -> bool
-    ensures { (result ≡ true) ↔ (list.now ≡ list2.now) }
-{
-    if list.len() != list2.len() {
-        return false;
-    }
-    let mut i = 0;
-    while i < list.len() {
-        if list[i] != list2[i] {
-            return false;
-        }
-        i += 1;
-    }
-    true
-}
-
-pub fn same_words(list: &[u16; 66], list2: &[u16; 66]) -> bool
-    ensures { (result ≡ true) ↔ (list.now ≡ list2.now) }
-{
-    same(list, list2)
-}
-
-pub fn same_bytes(list: &[u8; 66], list2: &[u8; 66]) -> bool
-    ensures { (result ≡ true) ↔ (list.now ≡ list2.now) }
-{
-    check::same(list, list2)
-}
-
-fn same_numbers(numbers: Numbers, numbers2: Numbers) -> bool
-    ensures { (result ≡ true) ↔ (numbers ≡ numbers2) }
-{
-    if numbers.ticks != numbers2.ticks {
-        return false;
-    }
-    if numbers.gap != numbers2.gap {
-        return false;
-    }
-    if numbers.rows != numbers2.rows {
-        return false;
-    }
-    numbers.count == numbers2.count
-}
-
 // Two held tables are the same, at the places that count and at the others.
 pub fn same_held(held: Held, held2: Held) -> bool
     ensures { (result ≡ true) ↔ Same held held2 }
 {
-    let numbers = held.numbers;
-    let starts = held.starts;
-    let ends = held.ends;
-    let marks = held.marks;
-    let labels = held.labels;
-    let numbers2 = held2.numbers;
-    let starts2 = held2.starts;
-    let ends2 = held2.ends;
-    let marks2 = held2.marks;
-    let labels2 = held2.labels;
-    if !same_numbers(numbers, numbers2) {
-        return false;
-    }
-    if !same_words(&starts, &starts2) {
-        return false;
-    }
-    if !same_words(&ends, &ends2) {
-        return false;
-    }
-    if !same_bytes(&marks, &marks2) {
-        return false;
-    }
-    same_bytes(&labels, &labels2)
+    held == held2
 }
-
-// ---- calls
 
 fn call(
-    numbers: Numbers,
-    starts: &mut [u16],
-    ends: &mut [u16],
-    marks: &mut [u8],
-    labels: &mut [u8],
+    held: &mut held_table::Held,
     change: Change,
+    labels: &mut [u8],
     space: &mut [u8],
-) -> Changed {
+) -> Result<usize, Refusal> {
     match change {
-        Change::Add(row) => held_table::add(numbers, starts, ends, marks, labels, row, space),
-        Change::Withdraw(k) => held_table::withdraw(numbers, starts, ends, marks, labels, k, space),
+        Change::Add(row) => held.add(row, labels, space),
+        Change::Withdraw(k) => held.withdraw(k, labels, space),
     }
 }
 
-// What a call gives that is lent so much of the lists and of the working space.
-fn call_lent(
-    numbers: Numbers,
-    starts: &mut [u16],
-    ends: &mut [u16],
-    marks: &mut [u8],
-    labels: &mut [u8],
-    change: Change,
-    space: &mut [u8],
-    lent: Lent,
-) -> Changed {
-    let a = at_most(lent.starts, starts.len());
-    let b = at_most(lent.ends, ends.len());
-    let c = at_most(lent.marks, marks.len());
-    let d = at_most(lent.labels, labels.len());
-    let e = at_most(lent.bytes, space.len());
-    call(
-        numbers,
-        &mut starts[..a],
-        &mut ends[..b],
-        &mut marks[..c],
-        &mut labels[..d],
-        change,
-        &mut space[..e],
-    )
+impl Held {
+    // What a call answers that is lent so much of the lists and of the working space, and the table after it.
+    fn changed(
+        self,
+        change: Change,
+        space: &mut [u8],
+        lent: Lent,
+    ) -> (Result<usize, Refusal>, Held) {
+        let mut starts = self.starts;
+        let mut ends = self.ends;
+        let mut marks = self.marks;
+        let mut labels = self.labels;
+        let places = lent.labels.min(66);
+        let bytes = lent.bytes.min(space.len());
+        let mut held = held_table::Held {
+            numbers: self.numbers,
+            starts: &mut starts[..lent.starts.min(66)],
+            ends: &mut ends[..lent.ends.min(66)],
+            marks: &mut marks[..lent.marks.min(66)],
+        };
+        let answer = call(
+            &mut held,
+            change,
+            &mut labels[..places],
+            &mut space[..bytes],
+        );
+        let numbers = held.numbers;
+        let after = Held {
+            numbers,
+            starts,
+            ends,
+            marks,
+            labels,
+        };
+        (answer, after)
+    }
 }
 
-// The count that a call with this number reports, where it leaves these numbers: "with count 0" on a refusal.
-fn count_of(number: u8, numbers: Numbers) -> usize {
-    if number == 0 { numbers.count } else { 0 }
-}
-
-// Whether a change to a held table answers with the number, leaves `after`, and the working space as the planner does.
-pub fn is_changed(before: Held, change: Change, lent: Lent, number: u8, after: Held) -> bool {
-    let mut starts = before.starts;
-    let mut ends = before.ends;
-    let mut marks = before.marks;
-    let mut labels = before.labels;
+// Whether a change to a held table gives the table that is expected, or is refused by the number, "with count 0", and leaves the table; and leaves the working space
+// as the planner does.
+pub fn is_changed(before: Held, change: Change, lent: Lent, expected: Result<Held, u8>) -> bool {
+    let (number, count, after) = match expected {
+        Ok(after) => (0, after.numbers.count, after),
+        Err(number) => (number, 0, before),
+    };
     let mut space = [BEFORE; LENT_BYTES];
-    let changed = call_lent(
-        before.numbers,
-        &mut starts,
-        &mut ends,
-        &mut marks,
-        &mut labels,
-        change,
-        &mut space,
-        lent,
-    );
-    let answer = changed.answer;
-    let numbers = changed.numbers;
-    let expected = after.numbers;
-    if !trial_calls::is_answer(answer, number, count_of(number, expected)) {
-        return false;
-    }
-    if !trial_calls::is_left(&space, number) {
-        return false;
-    }
-    let held = Held {
-        numbers,
-        starts,
-        ends,
-        marks,
-        labels,
-    };
-    same_held(held, after)
+    let (answer, held) = before.changed(change, &mut space, lent);
+    trial_calls::is_answer(answer, number, count)
+        && trial_calls::is_left(&space, number)
+        && same_held(held, after)
 }
 
-// Whether a begin answers with the number and gives an empty table of R and g.
-pub fn is_begun(ticks: u16, gap: u16, number: u8, ticks2: u16, gap2: u16) -> bool {
-    let begun = held_table::begin(ticks, gap);
-    let refusal = begun.refusal;
-    let numbers = begun.numbers;
-    if refusals::number(refusal) != number {
-        return false;
+// Whether a begin gives an empty table of R and g, with the number 0, or is refused by the number.
+pub fn is_begun(ticks: u16, gap: u16, number: u8) -> bool {
+    match held_table::begin(ticks, gap) {
+        Ok(numbers) => {
+            number == 0
+                && numbers
+                    == Numbers {
+                        ticks,
+                        gap,
+                        rows: 0,
+                        count: 0,
+                    }
+        }
+        Err(refusal) => u8::from(refusal) == number,
     }
-    let expected = Numbers {
-        ticks: ticks2,
-        gap: gap2,
-        rows: 0,
-        count: 0,
-    };
-    same_numbers(numbers, expected)
 }

@@ -12,11 +12,10 @@ use Rattle.basics.specs.Limits.{max_rows, has_places}
 use Rattle.basics.proofs.Tests.{eqb_iff, and_iff}
 use Rattle.basics.proofs.Places.{places_iff}
 use Rattle.window.specs.declared.Row.{Row}
+use Rattle.std.specs.Prelude.{Err}
 use Rattle.refusals.specs.declared.Refusal.{Refusal}
-use Rattle.refusals.specs.declared.Refusal.TheVariants.{Lists, Rows, Space, NoRow}
-use Rattle.refusals.specs.declared.Answer.{Answer}
-use Rattle.refusals.specs.Refusals.{number_of, answered, asked, ◌then◌}
-use Rattle.refusals.proofs.Refusals.{Passed, asked_passed, asked_passes, then_passed, then_either}
+use Rattle.refusals.specs.Refusals.{number_of, answered, asked, ◌then◌, Lists, Rows, Space, NoRow, Outcome}
+use Rattle.refusals.proofs.Refusals.{Passed, err_refuses, asked_passed, asked_passes, then_passed, then_either}
 use Rattle.table.specs.Tables.{Table}
 use Rattle.table.specs.Changes.{with_row, without_row}
 use Rattle.table.specs.Planned.{space_bytes, space_refusal}
@@ -26,7 +25,7 @@ use Rattle.held_table.specs.Held.{HeldTable, held_table, change, changed, places
 use Rattle.held_table.specs.Came.{HasPlaces}
 use Rattle.held_table.specs.Lent.{RoomFor, RowHeld, plan_rows}
 
-module _ (h : HeldTable) (t : Table) (space : List ℕ) (r : Refusal) where
+module _ (h : HeldTable) (t : Table) (space : List ℕ) (r : Outcome) where
   call_planned : Passed r → plan_rows h t space ≡ called (changed r h t (length space)) space
   unfolding changed
   call_planned p = rw (eq-eqb (number_of r) 0 p) refl
@@ -59,7 +58,7 @@ withdraw_8 starts ends marks labels space rows k =
 -- ---- what the checks leave known
 
 -- check 1 passes exactly if its lists have 64 places each
-abbrev pub places_first : HeldTable → Refusal
+abbrev pub places_first : HeldTable → Outcome
 places_first h = places_refusal (length h.starts) (length h.ends) (length h.marks) (length h.labels)
 
 pub has_places_iff : (h : HeldTable) → Passed (places_first h) ↔ HasPlaces h
@@ -98,21 +97,21 @@ row_held h space k p =
 -- ---- the calls
 
 module _ (h : HeldTable) (space : List ℕ) where
-  pub add_refused : (row : Row) {r : Refusal} {a : Answer} → r ≡ add_first h → (number_of r ≡ 0 → ⊥) → a ≡ answered r 0 → gave a h space ≡ add_call h row space
+  pub add_refused : (row : Row) {e : Refusal} → Err e ≡ add_first h → gave (answered (Err e) 0) h space ≡ add_call h row space
   unfolding add_call added
-  add_refused row {r} e n q =
-      ap (λ x. gave x h space) (q ∙ ap (λ x. answered x 0) e)
-      ∙ call_refused h (with_row (held_table h) row) space (add_first h) (λ z. n (ap number_of e ∙ z)) (add_8 (length h.starts) (length h.ends) (length h.marks) (length h.labels) h.numbers.rows)
+  add_refused row {e} q =
+      ap (λ x. gave (answered x 0) h space) q
+      ∙ call_refused h (with_row (held_table h) row) space (add_first h) (λ z. err_refuses (Err e) refl (ap number_of q ∙ z)) (add_8 (length h.starts) (length h.ends) (length h.marks) (length h.labels) h.numbers.rows)
 
   pub add_planned : (row : Row) {c : HeldCall} → Passed (add_first h) → c ≡ plan_rows h (with_row (held_table h) row) space → c ≡ add_call h row space
   unfolding add_call added
   add_planned row p e = e ∙ call_planned h (with_row (held_table h) row) space (add_first h) p
 
-  pub withdraw_refused : (k : ℕ) {r : Refusal} {a : Answer} → r ≡ withdraw_first h k (length space) → (number_of r ≡ 0 → ⊥) → a ≡ answered r 0 → gave a h space ≡ withdraw_call h k space
+  pub withdraw_refused : (k : ℕ) {e : Refusal} → Err e ≡ withdraw_first h k (length space) → gave (answered (Err e) 0) h space ≡ withdraw_call h k space
   unfolding withdraw_call withdrawn
-  withdraw_refused k {r} e n q =
-      ap (λ x. gave x h space) (q ∙ ap (λ x. answered x 0) e)
-      ∙ call_refused h (without_row (held_table h) k) space (withdraw_first h k (length space)) (λ z. n (ap number_of e ∙ z)) (withdraw_8 (length h.starts) (length h.ends) (length h.marks) (length h.labels) (length space) h.numbers.rows k)
+  withdraw_refused k {e} q =
+      ap (λ x. gave (answered x 0) h space) q
+      ∙ call_refused h (without_row (held_table h) k) space (withdraw_first h k (length space)) (λ z. err_refuses (Err e) refl (ap number_of q ∙ z)) (withdraw_8 (length h.starts) (length h.ends) (length h.marks) (length h.labels) (length space) h.numbers.rows k)
 
   pub withdraw_planned : (k : ℕ) {c : HeldCall} → Passed (withdraw_first h k (length space)) → c ≡ plan_rows h (without_row (held_table h) k) space → c ≡ withdraw_call h k space
   unfolding withdraw_call withdrawn

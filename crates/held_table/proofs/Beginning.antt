@@ -1,17 +1,18 @@
 -- What `begin` computes, check after check, is what `begun` says.
 use Prim.Native.Nat.{ℕ}
 use mathlib.Core.Path.{◌≡◌, refl}
-use borrow.Author.Tests.{eq-eqb, ne_eqb}
+use borrow.Author.Tests.{ne_eqb}
+use Rattle.std.specs.Prelude.{Err}
 use Rattle.refusals.specs.declared.Refusal.{Refusal}
-use Rattle.refusals.specs.Refusals.{number_of}
-use Rattle.refusals.proofs.Refusals.{Passed}
+use Rattle.refusals.specs.Refusals.{number_of, Accepted}
+use Rattle.refusals.proofs.Refusals.{err_refuses}
 use Rattle.held_table.specs.Held.{begin_refusal, empty, begun}
 
-module _ (R g : ℕ) (r : Refusal) where
-  pub refused_begun : r ≡ begin_refusal R g → (number_of r ≡ 0 → ⊥) → empty r 2 0 ≡ begun R g
+module _ (R g : ℕ) where
+  pub refused_begun : {e : Refusal} → Err e ≡ begin_refusal R g → empty (Err e) 2 0 ≡ begun R g
   unfolding begun
-  refused_begun e n = rw (← e, ne_eqb (number_of r) 0 n) refl
+  refused_begun {e} q = rw (← q, ne_eqb (number_of (Err e)) 0 (err_refuses (Err e) refl)) refl
 
-  pub accepted_begun : r ≡ begin_refusal R g → Passed r → empty r R g ≡ begun R g
+  pub accepted_begun : Accepted ≡ begin_refusal R g → empty Accepted R g ≡ begun R g
   unfolding begun
-  accepted_begun e p = rw (← e, eq-eqb (number_of r) 0 p) refl
+  accepted_begun q = rw (← q) refl

@@ -5,9 +5,7 @@ use mathlib.Core.List.{List, [], ◌∷◌, ◌++◌}
 use lib.ListN.{length, replicate}
 use Rattle.basics.specs.Lists.{without}
 use Rattle.window.specs.Rows.{row}
-use Rattle.refusals.specs.declared.Refusal.{Refusal}
-use Rattle.refusals.specs.declared.Refusal.TheVariants.{Accepted, Lists, Rows, Space, Ticks, Gap, Window, Mark, NoPlan, NoRow}
-use Rattle.refusals.specs.Refusals.{answered}
+use Rattle.refusals.specs.Refusals.{answered, Accepted, Lists, Rows, Space, Ticks, Gap, Window, Mark, NoPlan, NoRow, Outcome}
 use Rattle.held_table.specs.Held.{HeldTable, numbers_of, kept, empty, begun, Change, change, added, withdrawn}
 use Rattle.held_table.specs.Came.{HasPlaces, Came, from_begin, from_add, from_withdraw}
 
@@ -43,7 +41,7 @@ abbrev pub Plans : ℕ → HeldTable → Change → Type 0
 Plans count h c = c ≡ change (answered Accepted count) h
 
 -- refused, and what was held is held
-abbrev pub Refused : Refusal → HeldTable → Change → Type 0
+abbrev pub Refused : Outcome → HeldTable → Change → Type 0
 Refused r h c = c ≡ change (answered r 0) h
 
 -- rows are added at the end, and the labels of other rows may change

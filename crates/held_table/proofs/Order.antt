@@ -9,9 +9,7 @@ use lib.ListN.{take}
 use lib.Seq.{length-take-le}
 use Rattle.basics.specs.Limits.{max_rows}
 use Rattle.window.specs.declared.Row.{Row}
-use Rattle.refusals.specs.declared.Refusal.{Refusal}
-use Rattle.refusals.specs.declared.Refusal.TheVariants.{Rows, NoRow}
-use Rattle.refusals.specs.Refusals.{number_of, asked, passes, ◌then◌}
+use Rattle.refusals.specs.Refusals.{number_of, asked, passes, ◌then◌, Rows, NoRow, Outcome}
 use Rattle.refusals.proofs.Refusals.{Passed, then_next, then_assoc}
 use Rattle.table.specs.Tables.{Table, rows}
 use Rattle.table.specs.Checks.{row_refusal}
@@ -69,7 +67,7 @@ module _ (h : HeldTable) (right : Right h) (k space : ℕ) where
       ∙ then_assoc (space_refusal space) (known then most) end
       ∙ spaced (passes (space_refusal space)) refl
     where
-      end : Refusal
+      end : Outcome
       end = (planned (without_row (held_table h) k) (take (rows (without_row (held_table h) k)) h.labels) space).answer.refusal
 
       found : (x : Bool) → ltb k h.numbers.rows ≡ x → Passed (space_refusal space) → ((asked x NoRow then asked (leb h.numbers.rows max_rows) Rows) then end) ≡ asked x NoRow

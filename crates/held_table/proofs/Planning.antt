@@ -10,8 +10,7 @@ use Rattle.basics.specs.Limits.{max_rows}
 use Rattle.basics.specs.Lists.{front}
 use Rattle.window.specs.declared.Kind.TheVariants.{Round}
 use Rattle.window.specs.Hours.{no_hours}
-use Rattle.refusals.specs.declared.Answer.{Answer}
-use Rattle.refusals.specs.Refusals.{number_of}
+use Rattle.refusals.specs.Refusals.{number_of, Answer}
 use Rattle.refusals.proofs.Refusals.{Passed}
 use Rattle.table.specs.declared.Setting.{Setting}
 use Rattle.table.specs.Tables.{Table, table, rows, setting_of}

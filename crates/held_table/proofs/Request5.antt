@@ -12,10 +12,7 @@ use Rattle.labels.specs.Labels.{heard, first_best}
 use Rattle.window.specs.declared.Kind.TheVariants.{Round}
 use Rattle.window.specs.declared.Row.{Row}
 use Rattle.window.specs.Hours.{no_hours}
-use Rattle.refusals.specs.declared.Refusal.{Refusal}
-use Rattle.refusals.specs.declared.Refusal.TheVariants.{Space, NoPlan, NoRow}
-use Rattle.refusals.specs.declared.Answer.{Answer}
-use Rattle.refusals.specs.Refusals.{number_of, asked, passes}
+use Rattle.refusals.specs.Refusals.{number_of, asked, passes, Space, NoPlan, NoRow, Answer, Outcome}
 use Rattle.refusals.proofs.Refusals.{Passed, then_either}
 use Rattle.table.specs.Tables.{Table, rows, setting_of, is_plan}
 use Rattle.table.specs.Checks.{ticks_refusal, hours_refusal, gap_refusal, setting_refusal, table_looked}
@@ -99,7 +96,7 @@ module _ {h : HeldTable} (c : Came h) where
 -- ---- what the functions promise, from what they compute
 
 module _ (h : HeldTable) (space : List ℕ) {a : Answer} {h' : HeldTable} {space' : List ℕ} where
-  promised : {r : Refusal} {t : Table} {c : Change} → gave a h' space' ≡ called c space → (Came h → Request5 h r t c) → Came h → Request5 h r t (change a h')
+  promised : {r : Outcome} {t : Table} {c : Change} → gave a h' space' ≡ called c space → (Came h → Request5 h r t c) → Came h → Request5 h r t (change a h')
   promised {r} {t} e f p = subst (Request5 h r t) (λ i. change (sym e i).answer (sym e i).held) (f p)
 
   pub add_said : (new : Row) → gave a h' space' ≡ add_call h new space

@@ -6,8 +6,7 @@ use mathlib.Core.List.{List}
 use borrow.Author.Tests.{le-leb}
 use lib.ListN.{length, take}
 use Rattle.window.specs.declared.Row.{Row}
-use Rattle.refusals.specs.declared.Refusal.{Refusal}
-use Rattle.refusals.specs.Refusals.{answered, passes}
+use Rattle.refusals.specs.Refusals.{answered, passes, Outcome}
 use Rattle.table.specs.Tables.{Table, rows}
 use Rattle.table.specs.Planned.{space_bytes, space_refusal}
 use Rattle.table.specs.Changes.{with_row, without_row}
@@ -16,7 +15,7 @@ use Rattle.table.proofs.Request9.{Left, clears}
 use Rattle.held_table.specs.Held.{HeldTable, held_table, Change, change, taken, changed, add_first, withdraw_checked, withdraw_first, added, withdrawn, add_call, withdraw_call}
 
 module _ (h : HeldTable) (space space' : ℕ) (a : 4608 ≤ space) (b : 4608 ≤ space') where
-  changed_anyhow : (r : Refusal) (t : Table) → changed r h t space ≡ changed r h t space'
+  changed_anyhow : (r : Outcome) (t : Table) → changed r h t space ≡ changed r h t space'
   unfolding changed
   changed_anyhow r t = ap (λ p. cond (passes r) (taken h t p) (change (answered r 0) h)) (planned_anyhow t (take (rows t) h.labels) space space' a b)
 

@@ -12,10 +12,7 @@ use lib.Seq.{length-take-le, take_at}
 use Rattle.basics.specs.Limits.{max_rows}
 use Rattle.basics.specs.Lists.{front}
 use Rattle.labels.specs.Labels.{heard}
-use Rattle.refusals.specs.declared.Refusal.{Refusal}
-use Rattle.refusals.specs.declared.Refusal.TheVariants.{Accepted, Space}
-use Rattle.refusals.specs.declared.Answer.{Answer}
-use Rattle.refusals.specs.Refusals.{number_of, answered, passes, ◌then◌}
+use Rattle.refusals.specs.Refusals.{number_of, answered, passes, ◌then◌, Accepted, Space, Answer, Outcome}
 use Rattle.refusals.proofs.Refusals.{Passed, asked_passes, then_passes}
 use Rattle.basics.proofs.Tests.{leb_iff}
 use Rattle.table.specs.Tables.{Table, table, rows, Plan, Valid}
@@ -108,10 +105,10 @@ module _ (h : HeldTable) (right : Right h) (t : Table) (same : t.setting ≡ rou
   -- ---- a change
 
   -- what request 5 says of a change that is refused so or makes t, and that what is then held is right
-  abbrev pub Kept : Refusal → Change → Type 0
+  abbrev pub Kept : Outcome → Change → Type 0
   Kept r c = Request5 h r t c × Right c.held
 
-  kept_refused : (r : Refusal) (c : Change) → (number_of r ≡ 0 → ⊥) → c ≡ change (answered r 0) h → Kept r c
+  kept_refused : (r : Outcome) (c : Change) → (number_of r ≡ 0 → ⊥) → c ≡ change (answered r 0) h → Kept r c
   kept_refused r c n e =
       rw e (record { refusal = refl; refused = λ _. refl; accepted = λ p. absurd (n p); count = λ p. absurd (n p); plan = right_plan h right }, right)
 
@@ -134,7 +131,7 @@ module _ (h : HeldTable) (right : Right h) (t : Table) (same : t.setting ≡ rou
           let n = eqb-false (number_of p.answer.refusal) 0 e in
           kept_refused p.answer.refusal (change p.answer h) n (ap (λ a. change a h) (refused_count t before space n))
 
-  pub changed_kept : (r : Refusal) (space : ℕ) → Kept (r then (planned t (take (rows t) h.labels) space).answer.refusal) (changed r h t space)
+  pub changed_kept : (r : Outcome) (space : ℕ) → Kept (r then (planned t (take (rows t) h.labels) space).answer.refusal) (changed r h t space)
   unfolding changed
   changed_kept r space = go (passes r) refl
     where

@@ -7,9 +7,7 @@ use native.Mathlib.Omega.{arith}
 use lib.ListN.{length, take, length-take}
 use lib.Seq.{length-take-le}
 use Rattle.window.specs.declared.Row.{Row}
-use Rattle.refusals.specs.declared.Refusal.{Refusal}
-use Rattle.refusals.specs.declared.Refusal.TheVariants.{Accepted}
-use Rattle.refusals.specs.Refusals.{number_of, answered}
+use Rattle.refusals.specs.Refusals.{number_of, answered, Accepted, Outcome}
 use Rattle.table.specs.Tables.{Table, rows}
 use Rattle.table.specs.Planned.{space_bytes, Planned, answering, planned}
 use Rattle.table.specs.Changes.{with_row, without_row}
@@ -53,7 +51,7 @@ same_plan {h} {h'} p q e =
     let l : length before ≡ rows (held_table h) = length-take-le h.numbers.rows h.labels (omega (arith, p.places.labels_64, p.each_row, length-take h.numbers.rows h.starts, p.places.rows_64.starts_64)) ∙ sym p.each_row in
     sym (p.plan before space_bytes l (omega arith)) ∙ ap (λ t. planned t before space_bytes) e ∙ q.plan before space_bytes (l ∙ ap rows e) (omega arith)
 
-same_change : {h h' : HeldTable} {r : Refusal} {t : Table} {c c' : Change} → Request5 h r t c → Request5 h' r t c' → held_table h ≡ held_table h'
+same_change : {h h' : HeldTable} {r : Outcome} {t : Table} {c c' : Change} → Request5 h r t c → Request5 h' r t c' → held_table h ≡ held_table h'
     → (c.answer ≡ c'.answer) × (held_table c.held ≡ held_table c'.held)
 same_change {r = r} {c = c} {c' = c'} a b e = go (ℕ_discrete (number_of r) 0)
   where
@@ -68,7 +66,7 @@ same_change {r = r} {c = c} {c' = c'} a b e = go (ℕ_discrete (number_of r) 0)
     )
 
 -- WHATEVER MEETS REQUEST 5 gives the same answer, the same table and the same plan.
-pub only_5 : {h : HeldTable} {r : Refusal} {t : Table} {c c' : Change} → Request5 h r t c → Request5 h r t c'
+pub only_5 : {h : HeldTable} {r : Outcome} {t : Table} {c c' : Change} → Request5 h r t c → Request5 h r t c'
     → (c.answer ≡ c'.answer) × (held_table c.held ≡ held_table c'.held) × (held_plan c.held ≡ held_plan c'.held)
 only_5 a b = let s = same_change a b refl in (s.0, s.1, ap (λ (p : Planned). p.labels) (same_plan a.plan b.plan s.1))
 

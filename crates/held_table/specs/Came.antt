@@ -2,9 +2,7 @@
 use Rattle.std.specs.Prelude.{ℕ, ◌≤◌, ◌≡◌, List, ltb, length}
 use Rattle.basics.specs.Limits.{max_rows, Places}
 use Rattle.window.specs.declared.Row.{Row}
-use Rattle.refusals.specs.declared.Refusal.{Refusal}
-use Rattle.refusals.specs.declared.Refusal.TheVariants.{Accepted, Rows, NoRow}
-use Rattle.refusals.specs.Refusals.{number_of, answered, asked, ◌then◌}
+use Rattle.refusals.specs.Refusals.{number_of, answered, asked, ◌then◌, Accepted, Rows, NoRow, Outcome}
 use Rattle.table.specs.Tables.{Table, rows}
 use Rattle.table.specs.Checks.{row_refusal}
 use Rattle.table.specs.Planned.{space_bytes, space_refusal, best_plan, answering, given, plan_refusal, planned}
@@ -33,17 +31,17 @@ pub record PlanHeld (h : HeldTable) : Type 0 where
 -- ---- the refusals of a change, in the order of request 5
 
 -- "An addition that meets 2, 3, 6, 7 or 8, looked at so"
-unfoldable pub add_refusal : Table → Row → ℕ → Refusal
+unfoldable pub add_refusal : Table → Row → ℕ → Outcome
 unfolding space_refusal row_refusal best_plan given
 add_refusal t row space = asked (ltb (rows t) max_rows) Rows then space_refusal space then row_refusal t.setting row then plan_refusal (with_row t row)
 
 -- "15, withdrawal of a row not in the table, looked at after 3 and last": "A withdrawal from a table that has a plan never ends in 8"
-unfoldable pub withdraw_refusal : Table → ℕ → ℕ → Refusal
+unfoldable pub withdraw_refusal : Table → ℕ → ℕ → Outcome
 unfolding space_refusal
 withdraw_refusal t k space = space_refusal space then asked (ltb k (rows t)) NoRow
 
 -- REQUEST 5 of a change c to a held table, which is refused so or makes the table t
-pub record Request5 (h : HeldTable) (r : Refusal) (t : Table) (c : Change) : Type 0 where
+pub record Request5 (h : HeldTable) (r : Outcome) (t : Table) (c : Change) : Type 0 where
   -- "looked at so"
   pub refusal : c.answer.refusal ≡ r
   -- "changes neither table nor plan"

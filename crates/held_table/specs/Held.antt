@@ -1,20 +1,17 @@
 -- Believed: A held table (request 5 of paper 02): where it lies, the table and the plan that it holds, and what each call gives, whole, on every input.
-use Rattle.std.specs.Prelude.{ℕ, cond, ◌&&◌, List, leb, ltb, eqb, length, take}
+use Rattle.std.specs.Prelude.{ℕ, cond, ◌&&◌, List, leb, ltb, eqb, length, take, Result, Ok, Err}
 use Rattle.basics.specs.Limits.{max_rows, has_places}
 use Rattle.basics.specs.Lists.{front}
 use Rattle.window.specs.declared.Kind.TheVariants.{Round}
 use Rattle.window.specs.declared.Row.{Row}
 use Rattle.window.specs.Hours.{no_hours}
 use Rattle.refusals.specs.declared.Refusal.{Refusal}
-use Rattle.refusals.specs.declared.Refusal.TheVariants.{Lists, Rows, NoRow}
-use Rattle.refusals.specs.declared.Answer.{Answer}
-use Rattle.refusals.specs.Refusals.{answered, asked, passes, ◌then◌}
+use Rattle.refusals.specs.Refusals.{answered, asked, passes, ◌then◌, Accepted, Lists, Rows, NoRow, Answer, Outcome}
 use Rattle.table.specs.Tables.{Table, table, rows, setting_of}
 use Rattle.table.specs.Checks.{ticks_refusal, gap_refusal}
 use Rattle.table.specs.Planned.{space_refusal, Planned, planned, space_after}
 use Rattle.table.specs.Changes.{with_row, without_row}
 use Rattle.held_table.specs.declared.Numbers.{Numbers}
-use Rattle.held_table.specs.declared.Begun.{Begun}
 
 -- ---- where it lies
 
@@ -44,17 +41,27 @@ held_plan h = take h.numbers.rows h.labels
 
 -- ---- begun
 
-abbrev pub empty : Refusal → ℕ → ℕ → Begun
+-- what a begin gives: whether it is refused, and the numbers of an empty table
+pub record Begun : Type 0 where
+  pub refusal : Outcome
+  pub numbers : Numbers
+
+abbrev pub empty : Outcome → ℕ → ℕ → Begun
 empty r R g = record { refusal = r; numbers = numbers_of R g 0 0 }
 
 -- "which 4 and then 14 may refuse"
-abbrev pub begin_refusal : ℕ → ℕ → Refusal
+abbrev pub begin_refusal : ℕ → ℕ → Outcome
 begin_refusal R g = ticks_refusal R then gap_refusal g
 
 -- "begun empty for a round of stated R and g, which 4 and then 14 may refuse (leaving an empty table of R 2, g 0)"
 unfoldable pub begun : ℕ → ℕ → Begun
 unfolding ticks_refusal gap_refusal
 begun R g = cond (passes (begin_refusal R g)) (empty (begin_refusal R g) R g) (empty (begin_refusal R g) 2 0)
+
+-- what a call reports that gives these numbers or a refusal
+abbrev pub begun_as : Result Numbers Refusal → Begun
+begun_as (Ok n) = record { refusal = Accepted; numbers = n }
+begun_as (Err r) = empty (Err r) 2 0
 
 -- ---- changed
 
@@ -77,30 +84,30 @@ unfoldable pub taken : HeldTable → Table → Planned → Change
 taken h t p = cond (passes p.answer.refusal) (change p.answer (holding h t p.answer.count p.labels)) (change p.answer h)
 
 -- "After each change the held plan is the one that planning the whole table gives": h is changed to hold t, unless a check before that refuses.
-unfoldable pub changed : Refusal → HeldTable → Table → ℕ → Change
+unfoldable pub changed : Outcome → HeldTable → Table → ℕ → Change
 unfolding taken planned
 changed r h t space = cond (passes r) (taken h t (planned t (take (rows t) h.labels) space)) (change (answered r 0) h)
 
 -- 1: a list has other than 64 places; by the lengths of starts, ends, marks and labels
-unfoldable pub places_refusal : ℕ → ℕ → ℕ → ℕ → Refusal
+unfoldable pub places_refusal : ℕ → ℕ → ℕ → ℕ → Outcome
 places_refusal starts ends marks labels = asked (has_places starts ends marks && eqb labels max_rows) Lists
 
 -- an addition: 1, and 2 where 64 rows are held; from 3 on the planner looks
-unfoldable pub add_checked : ℕ → ℕ → ℕ → ℕ → ℕ → Refusal
+unfoldable pub add_checked : ℕ → ℕ → ℕ → ℕ → ℕ → Outcome
 unfolding places_refusal
 add_checked starts ends marks labels rows = places_refusal starts ends marks labels then asked (ltb rows max_rows) Rows
 
 -- a withdrawal of row k: 1, 3, then "15, withdrawal of a row not in the table, looked at after 3"; more than 64 rows, which no call leaves, get the planner's 2
-unfoldable pub withdraw_checked : ℕ → ℕ → ℕ → ℕ → ℕ → ℕ → ℕ → Refusal
+unfoldable pub withdraw_checked : ℕ → ℕ → ℕ → ℕ → ℕ → ℕ → ℕ → Outcome
 unfolding places_refusal space_refusal
 withdraw_checked starts ends marks labels space rows k =
     places_refusal starts ends marks labels then space_refusal space then asked (ltb k rows) NoRow then asked (leb rows max_rows) Rows
 
 -- the same of a held table
-abbrev pub add_first : HeldTable → Refusal
+abbrev pub add_first : HeldTable → Outcome
 add_first h = add_checked (length h.starts) (length h.ends) (length h.marks) (length h.labels) h.numbers.rows
 
-abbrev pub withdraw_first : HeldTable → ℕ → ℕ → Refusal
+abbrev pub withdraw_first : HeldTable → ℕ → ℕ → Outcome
 withdraw_first h k space = withdraw_checked (length h.starts) (length h.ends) (length h.marks) (length h.labels) space h.numbers.rows k
 
 -- A row is "added at the end": the table with it is planned.

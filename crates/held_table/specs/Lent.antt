@@ -1,22 +1,31 @@
--- Inner: What the functions of the crate `held_table` lend each other.
+-- Inner: A held table as code is lent it, and what the functions of the crate `held_table` lend each other.
 use Rattle.std.specs.Prelude.{ℕ, ◌≤◌, ◌<◌, ◌≡◌, List, length, take}
 use Rattle.basics.specs.Limits.{max_rows, Places}
-use Rattle.refusals.specs.declared.Answer.{Answer}
-use Rattle.table.specs.Tables.{Table, rows}
+use Rattle.window.specs.declared.Kind.TheVariants.{Round}
+use Rattle.window.specs.Hours.{no_hours}
+use Rattle.table.specs.Tables.{Table, table, rows, setting_of}
 use Rattle.table.specs.Planned.{planned}
-use Rattle.held_table.specs.declared.Numbers.{Numbers}
-use Rattle.held_table.specs.declared.Changed.{Changed}
-use Rattle.held_table.specs.Held.{HeldTable, numbers_of, taken, HeldCall, called}
+use Rattle.held_table.specs.declared.Held.{Held}
+use Rattle.held_table.specs.Held.{HeldTable, kept, taken, HeldCall, called}
 use Rattle.held_table.specs.Came.{HasPlaces}
 
--- so many rows are held, and the plan of that answer
-abbrev pub changed_to : Numbers → ℕ → Answer → Changed
-changed_to numbers rows answer = record { answer = answer; numbers = numbers_of numbers.ticks numbers.gap rows answer.count }
+-- the held table that code is lent, with the list of its labels
+abbrev pub held : Held → List ℕ → HeldTable
+held h labels = kept h.numbers h.starts.now h.ends.now h.marks.now labels
 
--- n rows in lists of 64 places, and their labels
-pub record RowsLent (n : ℕ) (starts ends marks labels : List ℕ) : Type 0 where
-  pub places : Places starts ends marks
-  pub labels_64 : length labels ≡ max_rows
+-- it lies in the same lists, changed or not
+pub record Same (old new : Held) : Type 0 where
+  pub starts : new.starts.ghost_name ≡ old.starts.ghost_name
+  pub ends : new.ends.ghost_name ≡ old.ends.ghost_name
+  pub marks : new.marks.ghost_name ≡ old.marks.ghost_name
+
+-- its first n rows, of its round
+abbrev pub first_rows : ℕ → Held → Table
+first_rows n h = table (setting_of Round h.numbers.ticks h.numbers.gap no_hours) (take n h.starts.now) (take n h.ends.now) (take n h.marks.now)
+
+-- it has places for n rows
+pub record FirstRows (n : ℕ) (h : Held) : Type 0 where
+  pub places : Places h.starts.now h.ends.now h.marks.now
   pub most : n ≤ max_rows
 
 -- there is a place for a row more

@@ -3,7 +3,7 @@ use crate::judged::{added, not_added, not_added_in, not_withdrawn, not_withdrawn
 use crate::kept::{with_numbers, with_plan, with_row_at};
 use crate::tables::three_rows;
 use held_calls::{Held, with_space};
-use trial_report::{Group, no_cases};
+use trial_report::Group;
 use window::Row;
 
 // The table of three rows with other numbers.
@@ -97,7 +97,7 @@ fn other_plan(group: Group) -> Group {
 }
 
 pub fn all() -> Group {
-    let mut g = too_many_rows(no_cases(), 65);
+    let mut g = too_many_rows(Group::default(), 65);
     g = too_many_rows(g, 18446744073709551615);
     g = rows_beyond(g);
     g = rounds(g);

@@ -23,24 +23,26 @@ pub struct Drawn {
 
 // A number from 0 to `most`, from the upper half of a state.
 fn up_to(state: u64, most: u16) -> u16 {
-    ((state >> 32) % ((most as u64) + 1)) as u16
+    ((state >> 32) % (u64::from(most) + 1)) as u16
 }
 
 // The end of a window of so many ticks, going on from R-1 to 0; after none it is the start.
 fn end_after(ticks: u16, start: u16, length: u16) -> u16 {
-    let end = std::num::wrapping_add_u16(start, length);
+    let end = start.wrapping_add(length);
     if end < ticks {
-        return end;
+        end
+    } else {
+        end.wrapping_sub(ticks)
     }
-    std::num::wrapping_sub_u16(end, ticks)
 }
 
 // R, which is not below R, for one row in 16; which it is lies in the lower half of the state.
 fn end_of(round: Round, start: u16, state: u64) -> u16 {
     if state % 16 == 0 {
-        return round.ticks;
+        round.ticks
+    } else {
+        end_after(round.ticks, start, up_to(state, round.longest))
     }
-    end_after(round.ticks, start, up_to(state, round.longest))
 }
 
 // A start from 0 to R, and a mark from 0 to 6.
@@ -58,9 +60,10 @@ fn row(round: Round, state: u64) -> Row {
 // A row's number from 0 to `rows`, which is at most 64: the last is not in the table.
 fn number(rows: usize, state: u64) -> usize {
     if rows < 65 {
-        return up_to(state, rows as u16) as usize;
+        usize::from(up_to(state, rows as u16))
+    } else {
+        0
     }
-    0
 }
 
 // One byte too few for one call in 32, just enough for as many, and for as many one byte less than was asked for before request 9.
@@ -75,23 +78,23 @@ fn bytes(state: u64) -> usize {
 
 // While a table grows seven changes in eight are additions, later every other one.
 fn is_addition(round: Round, rows: usize, grows: bool, state: u64) -> bool {
-    if round.brute {
-        if 6 < rows {
-            return false;
-        }
+    if round.brute && 6 < rows {
+        return false;
     }
     if grows {
-        return state % 8 != 0;
+        state % 8 != 0
+    } else {
+        state % 2 == 0
     }
-    state % 2 == 0
 }
 
 fn change(round: Round, rows: usize, grows: bool, state: u64) -> Change {
     let a = random::next(state);
     if is_addition(round, rows, grows, state) {
-        return Change::Add(row(round, a));
+        Change::Add(row(round, a))
+    } else {
+        Change::Withdraw(number(rows, a))
     }
-    Change::Withdraw(number(rows, a))
 }
 
 // A change to a table of so many rows.

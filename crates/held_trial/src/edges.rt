@@ -8,32 +8,32 @@ use crate::kept::{with_plan, without_row};
 use crate::tables::{full, three_rows};
 use held_calls::{Lent, is_begun, with_space};
 use trial_calls::LENT_BYTES;
-use trial_report::{Group, no_cases, with_case};
+use trial_report::Group;
 
 // ---- begin
 
 // "begun empty for a round of stated R and g"
 fn taken(group: Group, ticks: u16, gap: u16) -> Group {
-    with_case(group, is_begun(ticks, gap, 0, ticks, gap))
+    group.with_case(is_begun(ticks, gap, 0))
 }
 
-// "which 4 and then 14 may refuse (leaving an empty table of R 2, g 0)"
+// "which 4 and then 14 may refuse"
 fn not_taken(group: Group, ticks: u16, gap: u16, number: u8) -> Group {
-    with_case(group, is_begun(ticks, gap, number, 2, 0))
+    group.with_case(is_begun(ticks, gap, number))
 }
 
 pub fn begins() -> Group {
-    let mut g = not_taken(no_cases(), 0, 0, 4);
-    g = not_taken(g, 1, 0, 4);
-    g = taken(g, 2, 0);
-    g = taken(g, 43200, 0);
-    g = not_taken(g, 43201, 0, 4);
-    g = not_taken(g, 65535, 0, 4);
-    g = taken(g, 2, 600);
-    g = taken(g, 43200, 600);
-    g = not_taken(g, 2, 601, 14);
-    g = not_taken(g, 43200, 601, 14);
-    not_taken(g, 100, 65535, 14)
+    let mut g = Group::default();
+    for (ticks, gap) in [(2, 0), (43200, 0), (2, 600), (43200, 600)] {
+        g = taken(g, ticks, gap);
+    }
+    for ticks in [0, 1, 43201, 65535] {
+        g = not_taken(g, ticks, 0, 4);
+    }
+    for (ticks, gap) in [(2, 601), (43200, 601), (100, 65535)] {
+        g = not_taken(g, ticks, gap, 14);
+    }
+    g
 }
 
 // ---- rows
@@ -41,7 +41,7 @@ pub fn begins() -> Group {
 // Starts and ends of R-1, of R and above; a window over the end of the day, and one that sends all day. The least R that there is.
 pub fn windows() -> Group {
     let h = three_rows();
-    let mut g = added(no_cases(), h, 9, 0, 0, &[1, 2, 1, 1]);
+    let mut g = added(Group::default(), h, 9, 0, 0, &[1, 2, 1, 1]);
     g = not_added(g, h, 10, 0, 0, 6);
     g = not_added(g, h, 65535, 0, 0, 6);
     g = added(g, h, 0, 9, 0, &[1, 2, 1, 0]);
@@ -56,7 +56,7 @@ pub fn windows() -> Group {
 // Marks of 5, of 6 and above; marks with which a row at 4–5 has no receiver.
 pub fn marks() -> Group {
     let h = three_rows();
-    let mut g = added(no_cases(), h, 0, 2, 5, &[1, 2, 1, 2]);
+    let mut g = added(Group::default(), h, 0, 2, 5, &[1, 2, 1, 2]);
     g = not_added(g, h, 0, 2, 6, 7);
     g = not_added(g, h, 0, 2, 255, 7);
     g = added(g, h, 4, 5, 0, &[1, 2, 1, 0]);
@@ -77,7 +77,7 @@ fn full_table(group: Group) -> Group {
 // The 64th row and the 65th.
 pub fn most_rows() -> Group {
     let less = with_plan(without_row(full(), 63), &[1; 63], 63);
-    let mut g = added(no_cases(), less, 64, 65, 0, &[1; 64]);
+    let mut g = added(Group::default(), less, 64, 65, 0, &[1; 64]);
     g = not_withdrawn(g, less, 63, 15);
     full_table(g)
 }
@@ -85,7 +85,7 @@ pub fn most_rows() -> Group {
 // The last row and those after it.
 pub fn row_numbers() -> Group {
     let h = three_rows();
-    let mut g = withdrawn(no_cases(), h, 0, &[1, 1]);
+    let mut g = withdrawn(Group::default(), h, 0, &[1, 1]);
     g = withdrawn(g, h, 2, &[1, 2]);
     g = not_withdrawn(g, h, 3, 15);
     g = not_withdrawn(g, h, 4, 15);
@@ -109,12 +109,14 @@ fn enough_bytes(group: Group, bytes: usize) -> Group {
 }
 
 pub fn space() -> Group {
-    let mut g = too_few_bytes(no_cases(), 0);
-    g = too_few_bytes(g, 4607);
-    g = enough_bytes(g, 4608);
-    g = enough_bytes(g, 4609);
-    g = enough_bytes(g, 16383);
-    enough_bytes(g, 16384)
+    let mut g = Group::default();
+    for bytes in [0, 4607] {
+        g = too_few_bytes(g, bytes);
+    }
+    for bytes in [4608, 4609, 16383, 16384] {
+        g = enough_bytes(g, bytes);
+    }
+    g
 }
 
 fn places(group: Group, starts: usize, ends: usize, marks: usize, labels: usize) -> Group {
@@ -140,8 +142,9 @@ fn each_list(group: Group, n: usize) -> Group {
 }
 
 pub fn lists() -> Group {
-    let mut g = each_list(no_cases(), 0);
-    g = each_list(g, 3);
-    g = each_list(g, 63);
-    each_list(g, 65)
+    let mut g = Group::default();
+    for n in [0, 3, 63, 65] {
+        g = each_list(g, n);
+    }
+    g
 }

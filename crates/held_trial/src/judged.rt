@@ -3,7 +3,7 @@ use crate::kept;
 use crate::kept::{with_plan, with_row, without_row};
 use held_calls::{Change, Held, Lent, is_begun, is_changed, with_space};
 use trial_calls::{LENT_BYTES, heard};
-use trial_report::{Group, with_case};
+use trial_report::Group;
 use window::Row;
 
 fn add(start: u16, end: u16, mark: u8) -> Change {
@@ -23,12 +23,12 @@ fn changed(h: Held, change: Change, labels: &[u8]) -> Held {
 // A change that is accepted gives these labels.
 fn accepted(group: Group, h: Held, change: Change, bytes: usize, labels: &[u8]) -> Group {
     let after = changed(h, change, labels);
-    with_case(group, is_changed(h, change, with_space(bytes), 0, after))
+    group.with_case(is_changed(h, change, with_space(bytes), Ok(after)))
 }
 
 // A change that is refused by the number "changes neither table nor plan".
 fn refused(group: Group, h: Held, change: Change, lent: Lent, number: u8) -> Group {
-    with_case(group, is_changed(h, change, lent, number, h))
+    group.with_case(is_changed(h, change, lent, Err(number)))
 }
 
 // With so many bytes of working space.
@@ -90,36 +90,34 @@ pub struct Judged {
     pub held: Held,
 }
 
-pub fn begun(group: Group, ticks: u16, gap: u16) -> Judged {
-    Judged {
-        group: with_case(group, is_begun(ticks, gap, 0, ticks, gap)),
-        held: kept::empty(ticks, gap),
+impl Judged {
+    pub fn begun(group: Group, ticks: u16, gap: u16) -> Judged {
+        Judged {
+            group: group.with_case(is_begun(ticks, gap, 0)),
+            held: kept::empty(ticks, gap),
+        }
     }
-}
 
-fn then(j: Judged, change: Change, labels: &[u8]) -> Judged {
-    let group = j.group;
-    let held = j.held;
-    Judged {
-        group: accepted(group, held, change, LENT_BYTES, labels),
-        held: changed(held, change, labels),
+    fn then(self, change: Change, labels: &[u8]) -> Judged {
+        Judged {
+            group: accepted(self.group, self.held, change, LENT_BYTES, labels),
+            held: changed(self.held, change, labels),
+        }
     }
-}
 
-pub fn then_add(j: Judged, start: u16, end: u16, mark: u8, labels: &[u8]) -> Judged {
-    then(j, add(start, end, mark), labels)
-}
+    pub fn then_add(self, start: u16, end: u16, mark: u8, labels: &[u8]) -> Judged {
+        self.then(add(start, end, mark), labels)
+    }
 
-pub fn then_withdraw(j: Judged, k: usize, labels: &[u8]) -> Judged {
-    then(j, Change::Withdraw(k), labels)
-}
+    pub fn then_withdraw(self, k: usize, labels: &[u8]) -> Judged {
+        self.then(Change::Withdraw(k), labels)
+    }
 
-// No receiver is left for a row that must be heard.
-pub fn then_no_plan(j: Judged, start: u16, end: u16, mark: u8) -> Judged {
-    let group = j.group;
-    let held = j.held;
-    Judged {
-        group: not_added(group, held, start, end, mark, 8),
-        held,
+    // No receiver is left for a row that must be heard.
+    pub fn then_no_plan(self, start: u16, end: u16, mark: u8) -> Judged {
+        Judged {
+            group: not_added(self.group, self.held, start, end, mark, 8),
+            ..self
+        }
     }
 }

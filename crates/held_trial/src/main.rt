@@ -24,7 +24,6 @@ const SMALL: u32 = 200;
 const LARGE: u32 = 40;
 
 fn print_additions(rt: &impl Print, a: Additions) -> io::Result<()> {
-    let refused = a.refused;
     print(rt, b"  additions accepted ", a.accepted)?;
     print(
         rt,
@@ -32,40 +31,36 @@ fn print_additions(rt: &impl Print, a: Additions) -> io::Result<()> {
         a.relabelled,
     )?;
     print(rt, b"    the table then has 64 rows ", a.full)?;
-    print(rt, b"  additions refused by 2 ", refused.rows)?;
-    print(rt, b"    by 3 ", refused.space)?;
-    print(rt, b"    by 6 ", refused.window)?;
-    print(rt, b"    by 7 ", refused.mark)?;
-    print(rt, b"    by 8 ", refused.no_plan)?;
+    print(rt, b"  additions refused by 2 ", a.refused.rows)?;
+    print(rt, b"    by 3 ", a.refused.space)?;
+    print(rt, b"    by 6 ", a.refused.window)?;
+    print(rt, b"    by 7 ", a.refused.mark)?;
+    print(rt, b"    by 8 ", a.refused.no_plan)?;
     print(rt, b"    by 8, with another row at its place ", a.seen)
 }
 
 fn print_withdrawals(rt: &impl Print, w: Withdrawals) -> io::Result<()> {
-    let refused = w.refused;
     print(rt, b"  withdrawals accepted ", w.accepted)?;
     print(rt, b"    the label of another row changed ", w.relabelled)?;
     print(rt, b"    rows moved up, and the starts changed ", w.starts)?;
     print(rt, b"    rows moved up, and the ends changed ", w.ends)?;
     print(rt, b"    rows moved up, and the marks changed ", w.marks)?;
-    print(rt, b"  withdrawals refused by 3 ", refused.space)?;
+    print(rt, b"  withdrawals refused by 3 ", w.refused.space)?;
     print(rt, b"    by 3, of a row not in the table ", w.both)?;
-    print(rt, b"    by 15 ", refused.no_row)?;
-    print(rt, b"    by 8 ", refused.no_plan)
+    print(rt, b"    by 15 ", w.refused.no_row)?;
+    print(rt, b"    by 8 ", w.refused.no_plan)
 }
 
 fn print_tally(rt: &impl Print, tally: Tally) -> io::Result<()> {
-    let additions = tally.additions;
-    let withdrawals = tally.withdrawals;
     print(rt, b"  changes ", tally.changes)?;
-    print_additions(rt, additions)?;
-    print_withdrawals(rt, withdrawals)?;
-    let lent = tally.lent;
+    print_additions(rt, tally.additions)?;
+    print_withdrawals(rt, tally.withdrawals)?;
     print(
         rt,
         b"  accepted with 4,608 bytes of working space ",
-        lent.least,
+        tally.lent.least,
     )?;
-    print(rt, b"    with 16,383 ", lent.less)?;
+    print(rt, b"    with 16,383 ", tally.lent.less)?;
     print(rt, b"  differ ", tally.differ)
 }
 

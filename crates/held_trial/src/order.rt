@@ -2,7 +2,7 @@
 use crate::judged::{not_added_in, not_withdrawn_in};
 use crate::tables::{full, three_rows};
 use held_calls::{Held, Lent, is_begun};
-use trial_report::{Group, no_cases, with_case};
+use trial_report::Group;
 
 // So many places for labels, and so many bytes of working space.
 fn lent_for(labels: usize, bytes: usize) -> Lent {
@@ -17,8 +17,9 @@ fn lent_for(labels: usize, bytes: usize) -> Lent {
 
 // "4 and then 14"
 fn begins(group: Group) -> Group {
-    let g = with_case(group, is_begun(1, 601, 4, 2, 0));
-    with_case(g, is_begun(43201, 601, 4, 2, 0))
+    group
+        .with_case(is_begun(1, 601, 4))
+        .with_case(is_begun(43201, 601, 4))
 }
 
 // An addition of 4 to `end`. At 4–5 no receiver is left for a row that must be heard.
@@ -74,7 +75,7 @@ fn withdrawals(group: Group) -> Group {
 }
 
 pub fn all() -> Group {
-    let mut g = begins(no_cases());
+    let mut g = begins(Group::default());
     g = full_table(g);
     g = additions(g);
     withdrawals(g)

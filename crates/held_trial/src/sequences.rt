@@ -1,7 +1,7 @@
 // Sequences of random changes, each from an empty table, and each change judged whole. The next change is to the table that is expected: where nothing differs, it is the one that the call left.
-use crate::drawn::Round;
+use crate::drawn::{Drawn, Round};
 use crate::tally::{Additions, Lent, Withdrawals};
-use crate::{drawn, expected, kept, tally};
+use crate::{drawn, expected, kept};
 use held_calls::{Change, Held, is_changed, with_space};
 use trial_report::more;
 
@@ -10,7 +10,7 @@ const CHANGES: u32 = 320;
 
 const GROWING: u32 = 200;
 
-#[derive(Clone, Copy)]
+#[derive(Clone, Copy, Default)]
 pub struct Tally {
     pub changes: u32,
     pub additions: Additions,
@@ -27,71 +27,59 @@ struct Sequence {
     tally: Tally,
 }
 
-// One change more is counted.
-fn counted(
-    t: Tally,
-    change: Change,
-    number: u8,
-    before: Held,
-    after: Held,
-    lent: Lent,
-    right: bool,
-    state: u64,
-) -> Tally {
-    let additions = t.additions;
-    let withdrawals = t.withdrawals;
-    let changes = more(t.changes, true);
-    let differ = more(t.differ, !right);
-    match change {
-        Change::Add(row) => Tally {
-            changes,
-            additions: tally::with_addition(additions, number, before, after, row),
-            withdrawals,
-            lent,
-            differ,
-            state,
-        },
-        Change::Withdraw(k) => Tally {
-            changes,
-            additions,
-            withdrawals: tally::with_withdrawal(withdrawals, number, before, after, k),
-            lent,
-            differ,
-            state,
-        },
+impl Tally {
+    // One change more is counted.
+    fn with_change(
+        self,
+        before: Held,
+        drawn: Drawn,
+        expected: Result<Held, u8>,
+        right: bool,
+    ) -> Tally {
+        let counted = Tally {
+            changes: more(self.changes, true),
+            lent: self.lent.with_bytes(expected.is_ok(), drawn.bytes),
+            differ: more(self.differ, !right),
+            state: drawn.state,
+            ..self
+        };
+        match drawn.change {
+            Change::Add(row) => Tally {
+                additions: self.additions.with_addition(before, row, expected),
+                ..counted
+            },
+            Change::Withdraw(k) => Tally {
+                withdrawals: self.withdrawals.with_withdrawal(before, k, expected),
+                ..counted
+            },
+        }
+    }
+
+    // One sequence more.
+    fn with_sequence(self, round: Round) -> Tally {
+        let mut s = Sequence {
+            held: kept::empty(round.ticks, round.gap),
+            tally: self,
+        };
+        for turn in 0..CHANGES {
+            s = s.with_change(round, turn < GROWING);
+        }
+        s.tally
     }
 }
 
-// One change more is drawn and judged.
-fn with_change(s: Sequence, round: Round, grows: bool) -> Sequence {
-    let held = s.held;
-    let tally = s.tally;
-    let numbers = held.numbers;
-    let drawn = drawn::draw(round, numbers.rows, grows, tally.state);
-    let change = drawn.change;
-    let bytes = drawn.bytes;
-    let expected = expected::changed(held, change, bytes, round.brute);
-    let number = expected.number;
-    let after = expected.held;
-    let right = is_changed(held, change, with_space(bytes), number, after);
-    let so_far = tally.lent;
-    let lent = tally::with_bytes(so_far, number, bytes);
-    Sequence {
-        held: after,
-        tally: counted(tally, change, number, held, after, lent, right, drawn.state),
+impl Sequence {
+    // One change more is drawn and judged.
+    fn with_change(self, round: Round, grows: bool) -> Sequence {
+        let held = self.held;
+        let drawn = drawn::draw(round, held.numbers.rows, grows, self.tally.state);
+        let expected = expected::changed(held, drawn.change, drawn.bytes, round.brute);
+        let right = is_changed(held, drawn.change, with_space(drawn.bytes), expected);
+        Sequence {
+            held: expected.unwrap_or(held),
+            tally: self.tally.with_change(held, drawn, expected, right),
+        }
     }
-}
-
-// One sequence more.
-fn with_sequence(tally: Tally, round: Round) -> Tally {
-    let mut s = Sequence {
-        held: kept::empty(round.ticks, round.gap),
-        tally,
-    };
-    for turn in 0..CHANGES {
-        s = with_change(s, round, turn < GROWING);
-    }
-    s.tally
 }
 
 fn round(ticks: u16, gap: u16, longest: u16, brute: bool) -> Round {
@@ -103,7 +91,7 @@ fn round(ticks: u16, gap: u16, longest: u16, brute: bool) -> Round {
     }
 }
 
-// Short days, so that much overlaps, touches and is equal.
+// Short days, so that much overlaps, touches and is equal. A match, as each arm is a round and no step: a table of rounds would be no plainer.
 fn small(turn: u32) -> Round {
     match turn % 8 {
         0 => round(2, 0, 1, true),
@@ -128,24 +116,17 @@ fn large(turn: u32) -> Round {
 }
 
 fn round_of(brute: bool, turn: u32) -> Round {
-    if brute {
-        return small(turn);
-    }
-    large(turn)
+    if brute { small(turn) } else { large(turn) }
 }
 
 // So many sequences, planned by brute force or not.
 pub fn all(sequences: u32, brute: bool) -> Tally {
     let mut tally = Tally {
-        changes: 0,
-        additions: tally::no_additions(),
-        withdrawals: tally::no_withdrawals(),
-        lent: tally::none_lent(),
-        differ: 0,
         state: 271,
+        ..Tally::default()
     };
     for turn in 0..sequences {
-        tally = with_sequence(tally, round_of(brute, turn));
+        tally = tally.with_sequence(round_of(brute, turn));
     }
     tally
 }

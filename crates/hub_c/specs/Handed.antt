@@ -2,26 +2,21 @@
 use Rattle.std.specs.Prelude.{Bool, true, false, ℕ, List}
 use Rattle.window.specs.declared.Kind.{Kind}
 use Rattle.window.specs.declared.Kind.TheVariants.{Round, Run}
-use Rattle.refusals.specs.declared.Answer.{Answer}
-use Rattle.refusals.specs.Refusals.{number_of}
+use Rattle.refusals.specs.Refusals.{number_of, Answer}
 use Rattle.table.specs.declared.Looked.{Looked}
 use Rattle.table.specs.Planned.{PlanCalled}
 use Rattle.plan_tape.specs.Written.{Written}
-use Rattle.fleet_tape.specs.Reading.{Reading}
 use Rattle.window.specs.Hours.{hour}
-use Rattle.fleet_tape.specs.declared.Report.{Report}
+use Rattle.fleet_tape.specs.Reading.{Report, Reading}
 use Rattle.player.specs.declared.Receiver.{Receiver}
 use Rattle.player.specs.declared.Receiver.TheVariants.{Idle, Listening}
 use Rattle.player.specs.declared.Player.{Player}
-use Rattle.player.specs.declared.Started.{Started}
+use Rattle.player.specs.Played.{Started}
 use Rattle.player.specs.declared.Stepped.{Stepped}
 use Rattle.held_table.specs.declared.Numbers.{Numbers}
-use Rattle.held_table.specs.declared.Begun.{Begun}
-use Rattle.held_table.specs.Held.{HeldCall}
+use Rattle.held_table.specs.Held.{Begun, HeldCall}
 use Rattle.candidates.specs.Tried.{CandidatesCalled}
-use Rattle.bit_words.specs.declared.LabelWords.{LabelWords}
-use Rattle.bit_words.specs.declared.MustWord.{MustWord}
-use Rattle.bit_words.specs.Words.{LabelsCalled}
+use Rattle.bit_words.specs.Words.{LabelWords, MustWord, LabelsCalled}
 use Rattle.bit_words.specs.Clashes.{ClashCalled}
 use Rattle.hub_c.specs.declared.HubAnswer.{HubAnswer}
 use Rattle.hub_c.specs.declared.HubPlayer.{HubPlayer}

@@ -5,10 +5,11 @@
 
 ghost use Rattle.std.specs.Prelude.{◌≡◌};
 ghost use Rattle.window.specs.declared.Kind.TheVariants.{Round, Run};
-ghost use Rattle.table.specs.Tables.{setting_of, table};
+ghost use Rattle.refusals.specs.Refusals.{answer_of};
+ghost use Rattle.table.specs.Tables.{setting_of, table, lent};
 ghost use Rattle.table.specs.Planned.{plan_call};
 ghost use Rattle.plan_tape.specs.Written.{written};
-ghost use Rattle.fleet_tape.specs.Reading.{fleet_read};
+ghost use Rattle.fleet_tape.specs.Reading.{fleet_read, report_of};
 ghost use Rattle.player.specs.Played.{player_at, stepped, started};
 ghost use Rattle.reply.specs.Replied.{replying, replied};
 ghost use Rattle.hub_c.specs.Handed.{handed, is_run, handed_report, plan_gave, handed_plan, tape_gave, handed_tape, read_gave, handed_read, handed_player, handed_receiver, handed_started, handed_stepped, handed_numbers, numbers_from, handed_begun, handed_change, held_gave, handed_held, handed_looked, tried_gave, handed_tried};
@@ -18,10 +19,10 @@ ghost use Rattle.window.specs.Rows.{row};
 ghost use Rattle.window.specs.Hours.{hours_from, no_hours};
 
 use fleet_tape::Report;
-use held_table::{Changed, Numbers};
+use held_table::{Held, Numbers};
 use player::{Player, Receiver};
-use refusals::Answer;
-use table::{Looked, Setting};
+use refusals::Refusal;
+use table::{Looked, Rows, Setting, Table};
 use window::{Kind, Row};
 
 pub mod words;
@@ -117,37 +118,61 @@ pub struct HubTried {
     pub rows: usize,
 }
 
-// An answer by its numbers.
-fn hand_over(answer: Answer) -> HubAnswer
-    ensures { result ≡ handed answer }
-{
-    let refusal = answer.refusal;
-    HubAnswer {
-        refusal: refusals::number(refusal),
-        count: answer.count,
+impl From<Result<usize, Refusal>> for HubAnswer {
+    ghost from_gives = { λ given answer. answer ≡ handed (answer_of given) };
+
+    fn from(given: Result<usize, Refusal>) -> HubAnswer {
+        match given {
+            Ok(count) => HubAnswer { refusal: 0, count },
+            Err(refusal) => HubAnswer {
+                refusal: refusal.into(),
+                count: 0,
+            },
+        }
     }
 }
 
-// The setting of a run with a gap in which receiver 1 is open from p1 to q1 and receiver 2 from p2 to q2.
-fn run_setting(ticks: u16, gap: u16, p1: u16, q1: u16, p2: u16, q2: u16) -> Setting
-    ensures { result ≡ setting_of Run ticks gap (hours_from p1 q1 p2 q2) }
+// A round with a gap, and its rows.
+fn round<'a>(ticks: u16, gap: u16, starts: &'a [u16], ends: &'a [u16], marks: &'a [u8]) -> Table<'a>
+    ensures { lent result ≡ table (setting_of Round ticks gap no_hours) starts.now ends.now marks.now }
 {
-    table::setting_of(Kind::Run, ticks, gap, [[p1, q1], [p2, q2]])
+    Table {
+        setting: Setting::round(ticks, gap),
+        rows: Rows {
+            starts,
+            ends,
+            marks,
+        },
+    }
 }
 
-// Plans a round or a run.
-fn plan(
-    setting: Setting,
-    starts: &[u16],
-    ends: &[u16],
-    marks: &[u8],
-    labels: &mut [u8],
-    space: &mut [u8],
-) -> HubAnswer
-    ensures { plan_gave result labels.new space.new ≡ handed_plan (plan_call (table setting starts.now ends.now marks.now) labels.old space.old) }
+// A run with a gap in which receiver 1 is open from p1 to q1 and receiver 2 from p2 to q2, and its rows.
+fn run<'a>(
+    ticks: u16,
+    gap: u16,
+    p1: u16,
+    q1: u16,
+    p2: u16,
+    q2: u16,
+    starts: &'a [u16],
+    ends: &'a [u16],
+    marks: &'a [u8],
+) -> Table<'a>
+    ensures { lent result ≡ table (setting_of Run ticks gap (hours_from p1 q1 p2 q2)) starts.now ends.now marks.now }
 {
-    let answer = planner::plan(setting, starts, ends, marks, labels, space);
-    hand_over(answer)
+    Table {
+        setting: Setting {
+            kind: Kind::Run,
+            ticks,
+            gap,
+            hours: [[p1, q1], [p2, q2]],
+        },
+        rows: Rows {
+            starts,
+            ends,
+            marks,
+        },
+    }
 }
 
 // Plans a round with a gap.
@@ -163,8 +188,7 @@ pub extern "C" fn hub_plan_round(
 ) -> HubAnswer
     ensures { plan_gave result labels.new space.new ≡ handed_plan (plan_call (table (setting_of Round ticks gap no_hours) starts.now ends.now marks.now) labels.old space.old) }
 {
-    let setting = table::round_setting(ticks, gap);
-    plan(setting, starts, ends, marks, labels, space)
+    planner::plan(round(ticks, gap, starts, ends, marks), labels, space).into()
 }
 
 // Plans a run with a gap in which receiver 1 is open from p1 to q1 and receiver 2 from p2 to q2.
@@ -184,23 +208,12 @@ pub extern "C" fn hub_plan_run(
 ) -> HubAnswer
     ensures { plan_gave result labels.new space.new ≡ handed_plan (plan_call (table (setting_of Run ticks gap (hours_from p1 q1 p2 q2)) starts.now ends.now marks.now) labels.old space.old) }
 {
-    let setting = run_setting(ticks, gap, p1, q1, p2, q2);
-    plan(setting, starts, ends, marks, labels, space)
-}
-
-// Writes the plan tape of a round or a run and labels to the front of the buffer `tape`.
-fn write_plan(
-    setting: Setting,
-    starts: &[u16],
-    ends: &[u16],
-    marks: &[u8],
-    labels: &[u8],
-    tape: &mut [u8],
-) -> HubAnswer
-    ensures { tape_gave result tape.new ≡ handed_tape (written (table setting starts.now ends.now marks.now) labels.now tape.old) }
-{
-    let answer = plan_tape::write_plan(setting, starts, ends, marks, labels, tape);
-    hand_over(answer)
+    planner::plan(
+        run(ticks, gap, p1, q1, p2, q2, starts, ends, marks),
+        labels,
+        space,
+    )
+    .into()
 }
 
 // Writes the plan tape of a round with a gap and labels to the front of the buffer `tape`; its count is the tape's length.
@@ -216,8 +229,7 @@ pub extern "C" fn hub_write_plan_round(
 ) -> HubAnswer
     ensures { tape_gave result tape.new ≡ handed_tape (written (table (setting_of Round ticks gap no_hours) starts.now ends.now marks.now) labels.now tape.old) }
 {
-    let setting = table::round_setting(ticks, gap);
-    write_plan(setting, starts, ends, marks, labels, tape)
+    plan_tape::write_plan(round(ticks, gap, starts, ends, marks), labels, tape).into()
 }
 
 // Writes the plan tape of a run with a gap, with the hours of its receivers, and labels to the front of the buffer `tape`; its count is the tape's length.
@@ -237,36 +249,43 @@ pub extern "C" fn hub_write_plan_run(
 ) -> HubAnswer
     ensures { tape_gave result tape.new ≡ handed_tape (written (table (setting_of Run ticks gap (hours_from p1 q1 p2 q2)) starts.now ends.now marks.now) labels.now tape.old) }
 {
-    let setting = run_setting(ticks, gap, p1, q1, p2, q2);
-    write_plan(setting, starts, ends, marks, labels, tape)
+    plan_tape::write_plan(
+        run(ticks, gap, p1, q1, p2, q2, starts, ends, marks),
+        labels,
+        tape,
+    )
+    .into()
 }
 
-// Whether the kind is a run.
-fn is_run(kind: Kind) -> bool
-    ensures { result ≡ is_run kind }
-{
-    match kind {
-        Kind::Round => false,
-        Kind::Run => true,
-    }
-}
+impl From<Result<Report, Refusal>> for HubReport {
+    ghost from_gives = { λ given report. report ≡ handed_report (report_of given) };
 
-// A report by its numbers.
-fn hand_over_report(report: Report) -> HubReport
-    ensures { result ≡ handed_report report }
-{
-    let refusal = report.refusal;
-    let kind = report.kind;
-    let hours = fleet_tape::hours_in(report);
-    HubReport {
-        refusal: refusals::number(refusal),
-        run: is_run(kind),
-        ticks: report.ticks,
-        p1: hours[0][0],
-        q1: hours[0][1],
-        p2: hours[1][0],
-        q2: hours[1][1],
-        rows: report.rows,
+    fn from(given: Result<Report, Refusal>) -> HubReport {
+        match given {
+            Ok(report) => {
+                let [[p1, q1], [p2, q2]] = report.hours;
+                HubReport {
+                    refusal: 0,
+                    run: report.kind == Kind::Run,
+                    ticks: report.ticks,
+                    p1,
+                    q1,
+                    p2,
+                    q2,
+                    rows: report.rows,
+                }
+            }
+            Err(refusal) => HubReport {
+                refusal: refusal.into(),
+                run: false,
+                ticks: 0,
+                p1: 0,
+                q1: 0,
+                p2: 0,
+                q2: 0,
+                rows: 0,
+            },
+        }
     }
 }
 
@@ -280,8 +299,7 @@ pub extern "C" fn hub_read_fleet(
 ) -> HubReport
     ensures { read_gave result starts.new ends.new marks.new ≡ handed_read (fleet_read tape.now starts.old ends.old marks.old) }
 {
-    let report = fleet_tape::read_fleet(tape, starts, ends, marks);
-    hand_over_report(report)
+    fleet_tape::read_fleet(tape, starts, ends, marks).into()
 }
 
 // Writes to the front of `out` what `hubplan` prints for a fleet tape, and returns how many bytes that is: 0, with nothing written, where `out` is shorter than 400 bytes.
@@ -292,42 +310,47 @@ pub extern "C" fn hub_reply(tape: &[u8], out: &mut [u8], space: &mut [u8]) -> us
     reply::reply(tape, out, space)
 }
 
-// A player by its number.
-fn hand_over_player(player: Player) -> HubPlayer
-    ensures { result ≡ handed_player player }
-{
-    HubPlayer { tick: player.tick }
-}
+impl From<Player> for HubPlayer {
+    ghost from_gives = { λ player handed. handed ≡ handed_player player };
 
-// What a receiver does, by numbers.
-fn hand_over_receiver(receiver: Receiver) -> HubReceiver
-    ensures { result ≡ handed_receiver receiver }
-{
-    match receiver {
-        Receiver::Idle => HubReceiver {
-            listening: false,
-            row: 0,
-            until: 0,
-        },
-        Receiver::Listening { row, until } => HubReceiver {
-            listening: true,
-            row,
-            until,
-        },
+    fn from(player: Player) -> HubPlayer {
+        HubPlayer { tick: player.tick }
     }
 }
 
-// Starts a player on a plan tape at a first tick.
+impl From<Receiver> for HubReceiver {
+    ghost from_gives = { λ receiver handed. handed ≡ handed_receiver receiver };
+
+    fn from(receiver: Receiver) -> HubReceiver {
+        match receiver {
+            Receiver::Idle => HubReceiver {
+                listening: false,
+                row: 0,
+                until: 0,
+            },
+            Receiver::Listening { row, until } => HubReceiver {
+                listening: true,
+                row,
+                until,
+            },
+        }
+    }
+}
+
+// Starts a player on a plan tape at a first tick. A refused start gives a player that is finished on every tape: no R is above its tick.
 #[unsafe(no_mangle)]
 pub extern "C" fn hub_player_start(tape: &[u8], first: u16) -> HubStarted
     ensures { result ≡ handed_started (started tape.now first) }
 {
-    let begun = player::start(tape, first);
-    let refusal = begun.refusal;
-    let player = hand_over_player(begun.player);
-    HubStarted {
-        refusal: refusals::number(refusal),
-        player,
+    match Player::start(tape, first) {
+        Ok(player) => HubStarted {
+            refusal: 0,
+            player: player.into(),
+        },
+        Err(refusal) => HubStarted {
+            refusal: refusal.into(),
+            player: Player::finished().into(),
+        },
     }
 }
 
@@ -336,55 +359,51 @@ pub extern "C" fn hub_player_start(tape: &[u8], first: u16) -> HubStarted
 pub extern "C" fn hub_player_step(tape: &[u8], player: HubPlayer) -> HubStepped
     ensures { result ≡ handed_stepped (stepped tape.now (player_at player.tick)) }
 {
-    let from = Player { tick: player.tick };
-    let step = player::step(tape, from);
-    let state = step.state;
-    let first = state.receiver1;
-    let second = state.receiver2;
-    let receiver1 = hand_over_receiver(first);
-    let receiver2 = hand_over_receiver(second);
-    let moved = hand_over_player(step.player);
+    let step = Player { tick: player.tick }.step(tape);
     HubStepped {
-        finished: state.finished,
-        receiver1,
-        receiver2,
-        player: moved,
+        finished: step.state.finished,
+        receiver1: step.state.receiver1.into(),
+        receiver2: step.state.receiver2.into(),
+        player: step.player.into(),
     }
 }
 
 // The numbers of a held table, handed over to C and in from C.
-fn hand_over_numbers(numbers: Numbers) -> HubHeldNumbers
-    ensures { result ≡ handed_numbers numbers }
-{
-    HubHeldNumbers {
-        ticks: numbers.ticks,
-        gap: numbers.gap,
-        rows: numbers.rows,
-        count: numbers.count,
+impl From<Numbers> for HubHeldNumbers {
+    ghost from_gives = { λ numbers handed. handed ≡ handed_numbers numbers };
+
+    fn from(numbers: Numbers) -> HubHeldNumbers {
+        HubHeldNumbers {
+            ticks: numbers.ticks,
+            gap: numbers.gap,
+            rows: numbers.rows,
+            count: numbers.count,
+        }
     }
 }
 
-fn numbers_from(numbers: HubHeldNumbers) -> Numbers
-    ensures { result ≡ numbers_from numbers }
-{
-    Numbers {
-        ticks: numbers.ticks,
-        gap: numbers.gap,
-        rows: numbers.rows,
-        count: numbers.count,
+impl From<HubHeldNumbers> for Numbers {
+    ghost from_gives = { λ handed numbers. numbers ≡ numbers_from handed };
+
+    fn from(handed: HubHeldNumbers) -> Numbers {
+        Numbers {
+            ticks: handed.ticks,
+            gap: handed.gap,
+            rows: handed.rows,
+            count: handed.count,
+        }
     }
 }
 
-// A change of a held table by its numbers.
-fn hand_over_change(changed: Changed) -> HubHeldChange
-    ensures { result ≡ handed_change changed.answer changed.numbers }
+// A change of a held table by its numbers, and the numbers of what is then held.
+fn hand_over_change(given: Result<usize, Refusal>, numbers: Numbers) -> HubHeldChange
+    ensures { result ≡ handed_change (answer_of given) numbers }
 {
-    let handed = hand_over(changed.answer);
-    let numbers = hand_over_numbers(changed.numbers);
+    let answer = HubAnswer::from(given);
     HubHeldChange {
-        refusal: handed.refusal,
-        count: handed.count,
-        numbers,
+        refusal: answer.refusal,
+        count: answer.count,
+        numbers: numbers.into(),
     }
 }
 
@@ -393,12 +412,15 @@ fn hand_over_change(changed: Changed) -> HubHeldChange
 pub extern "C" fn hub_held_begin(ticks: u16, gap: u16) -> HubHeldBegun
     ensures { result ≡ handed_begun (begun ticks gap) }
 {
-    let begun = held_table::begin(ticks, gap);
-    let refusal = begun.refusal;
-    let numbers = hand_over_numbers(begun.numbers);
-    HubHeldBegun {
-        refusal: refusals::number(refusal),
-        numbers,
+    match held_table::begin(ticks, gap) {
+        Ok(numbers) => HubHeldBegun {
+            refusal: 0,
+            numbers: numbers.into(),
+        },
+        Err(refusal) => HubHeldBegun {
+            refusal: refusal.into(),
+            numbers: Numbers::empty(2, 0).into(),
+        },
     }
 }
 
@@ -417,10 +439,14 @@ pub extern "C" fn hub_held_add(
 ) -> HubHeldChange
     ensures { held_gave result starts.new ends.new marks.new labels.new space.new ≡ handed_held (add_call (kept (numbers_from numbers) starts.old ends.old marks.old labels.old) (row start end mark) space.old) }
 {
-    let from = numbers_from(numbers);
-    let row = Row { start, end, mark };
-    let changed = held_table::add(from, starts, ends, marks, labels, row, space);
-    hand_over_change(changed)
+    let mut held = Held {
+        numbers: numbers.into(),
+        starts,
+        ends,
+        marks,
+    };
+    let given = held.add(Row { start, end, mark }, labels, space);
+    hand_over_change(given, held.numbers)
 }
 
 // Withdraws a row of a held table; later rows move up one.
@@ -436,50 +462,25 @@ pub extern "C" fn hub_held_withdraw(
 ) -> HubHeldChange
     ensures { held_gave result starts.new ends.new marks.new labels.new space.new ≡ handed_held (withdraw_call (kept (numbers_from numbers) starts.old ends.old marks.old labels.old) row space.old) }
 {
-    let from = numbers_from(numbers);
-    let changed = held_table::withdraw(from, starts, ends, marks, labels, row, space);
-    hand_over_change(changed)
-}
-
-// What trying candidates reports, by its numbers.
-fn hand_over_looked(looked: Looked) -> HubTried
-    ensures { result ≡ handed_looked looked }
-{
-    let refusal = looked.refusal;
-    HubTried {
-        refusal: refusals::number(refusal),
-        rows: looked.rows,
-    }
-}
-
-// Tries candidates against a table of a round or a run.
-fn try_candidates(
-    setting: Setting,
-    starts: &[u16],
-    ends: &[u16],
-    marks: &[u8],
-    candidate_starts: &[u16],
-    candidate_ends: &[u16],
-    candidate_marks: &[u8],
-    numbers: &mut [u8],
-    counts: &mut [u8],
-    space: &mut [u8],
-) -> HubTried
-    ensures { tried_gave result numbers.new counts.new space.new ≡ handed_tried (candidates_call (table setting starts.now ends.now marks.now) (candidates candidate_starts.now candidate_ends.now candidate_marks.now) numbers.old counts.old space.old) }
-{
-    let looked = candidates::try_each(
-        setting,
+    let mut held = Held {
+        numbers: numbers.into(),
         starts,
         ends,
         marks,
-        candidate_starts,
-        candidate_ends,
-        candidate_marks,
-        numbers,
-        counts,
-        space,
-    );
-    hand_over_looked(looked)
+    };
+    let given = held.withdraw(row, labels, space);
+    hand_over_change(given, held.numbers)
+}
+
+impl From<Looked> for HubTried {
+    ghost from_gives = { λ looked handed. handed ≡ handed_looked looked };
+
+    fn from(looked: Looked) -> HubTried {
+        HubTried {
+            refusal: refusals::number(looked.refusal),
+            rows: looked.rows,
+        }
+    }
 }
 
 // Tries each candidate, alone, as a row that must be heard beside the table of a round with a gap.
@@ -499,19 +500,13 @@ pub extern "C" fn hub_try_candidates_round(
 ) -> HubTried
     ensures { tried_gave result numbers.new counts.new space.new ≡ handed_tried (candidates_call (table (setting_of Round ticks gap no_hours) starts.now ends.now marks.now) (candidates candidate_starts.now candidate_ends.now candidate_marks.now) numbers.old counts.old space.old) }
 {
-    let setting = table::round_setting(ticks, gap);
-    try_candidates(
-        setting,
-        starts,
-        ends,
-        marks,
-        candidate_starts,
-        candidate_ends,
-        candidate_marks,
-        numbers,
-        counts,
-        space,
-    )
+    let table = round(ticks, gap, starts, ends, marks);
+    let candidates = Rows {
+        starts: candidate_starts,
+        ends: candidate_ends,
+        marks: candidate_marks,
+    };
+    candidates::try_each(table, candidates, numbers, counts, space).into()
 }
 
 // Tries each candidate, alone, as a row that must be heard beside the table of a run with a gap, with the hours of its receivers.
@@ -535,17 +530,11 @@ pub extern "C" fn hub_try_candidates_run(
 ) -> HubTried
     ensures { tried_gave result numbers.new counts.new space.new ≡ handed_tried (candidates_call (table (setting_of Run ticks gap (hours_from p1 q1 p2 q2)) starts.now ends.now marks.now) (candidates candidate_starts.now candidate_ends.now candidate_marks.now) numbers.old counts.old space.old) }
 {
-    let setting = run_setting(ticks, gap, p1, q1, p2, q2);
-    try_candidates(
-        setting,
-        starts,
-        ends,
-        marks,
-        candidate_starts,
-        candidate_ends,
-        candidate_marks,
-        numbers,
-        counts,
-        space,
-    )
+    let table = run(ticks, gap, p1, q1, p2, q2, starts, ends, marks);
+    let candidates = Rows {
+        starts: candidate_starts,
+        ends: candidate_ends,
+        marks: candidate_marks,
+    };
+    candidates::try_each(table, candidates, numbers, counts, space).into()
 }

@@ -34,13 +34,19 @@ pub struct HubMustWord {
 pub extern "C" fn hub_words_of_labels(labels: &[u8]) -> HubLabelWords
     ensures { result ≡ handed_words (words_call labels.now) }
 {
-    let words = bit_words::words_of(labels);
-    let refusal = words.refusal;
-    HubLabelWords {
-        refusal: refusals::number(refusal),
-        count: words.count,
-        heard: words.heard,
-        receiver: words.receiver,
+    match bit_words::words_of(labels) {
+        Ok(words) => HubLabelWords {
+            refusal: 0,
+            count: words.count,
+            heard: words.heard,
+            receiver: words.receiver,
+        },
+        Err(refusal) => HubLabelWords {
+            refusal: refusal.into(),
+            count: 0,
+            heard: 0,
+            receiver: 0,
+        },
     }
 }
 
@@ -49,8 +55,7 @@ pub extern "C" fn hub_words_of_labels(labels: &[u8]) -> HubLabelWords
 pub extern "C" fn hub_labels_of_words(heard: u64, receiver: u64, labels: &mut [u8]) -> HubAnswer
     ensures { labels_gave result labels.new ≡ handed_labels (labels_call heard receiver labels.old) }
 {
-    let answer = bit_words::labels_of(heard, receiver, labels);
-    crate::hand_over(answer)
+    bit_words::labels_of(heard, receiver, labels).into()
 }
 
 // The must word of marks.
@@ -58,11 +63,12 @@ pub extern "C" fn hub_labels_of_words(heard: u64, receiver: u64, labels: &mut [u
 pub extern "C" fn hub_must_of_marks(marks: &[u8]) -> HubMustWord
     ensures { result ≡ handed_must (must_call marks.now) }
 {
-    let must = bit_words::must_of(marks);
-    let refusal = must.refusal;
-    HubMustWord {
-        refusal: refusals::number(refusal),
-        word: must.word,
+    match bit_words::must_of(marks) {
+        Ok(word) => HubMustWord { refusal: 0, word },
+        Err(refusal) => HubMustWord {
+            refusal: refusal.into(),
+            word: 0,
+        },
     }
 }
 
@@ -70,8 +76,7 @@ pub extern "C" fn hub_must_of_marks(marks: &[u8]) -> HubMustWord
 fn clash_words(setting: Setting, starts: &[u16], ends: &[u16], words: &mut [u64]) -> u8
     ensures { clash_gave result words.new ≡ handed_clash (clash_call (windows_of setting starts.now ends.now) words.old) }
 {
-    let refusal = bit_words::clashes::clash_words(setting, starts, ends, words);
-    refusals::number(refusal)
+    refusals::number(bit_words::clashes::clash_words(setting, starts, ends, words))
 }
 
 // The clash words of windows of a round with a gap.
@@ -85,8 +90,7 @@ pub extern "C" fn hub_clash_words_round(
 ) -> u8
     ensures { clash_gave result words.new ≡ handed_clash (clash_call (windows_of (setting_of Round ticks gap no_hours) starts.now ends.now) words.old) }
 {
-    let setting = table::round_setting(ticks, gap);
-    clash_words(setting, starts, ends, words)
+    clash_words(Setting::round(ticks, gap), starts, ends, words)
 }
 
 // The clash words of windows of a run with a gap. Hours are neither checked nor used, so none are lent.
@@ -100,6 +104,11 @@ pub extern "C" fn hub_clash_words_run(
 ) -> u8
     ensures { clash_gave result words.new ≡ handed_clash (clash_call (windows_of (setting_of Run ticks gap no_hours) starts.now ends.now) words.old) }
 {
-    let setting = table::setting_of(Kind::Run, ticks, gap, [[0, 0], [0, 0]]);
+    let setting = Setting {
+        kind: Kind::Run,
+        ticks,
+        gap,
+        hours: [[0, 0], [0, 0]],
+    };
     clash_words(setting, starts, ends, words)
 }

@@ -1,8 +1,14 @@
 -- Laws of `heard`, the number of labels that are 1 or 2.
 use Prim.Native.Nat.{ℕ, zero, suc, ◌+◌, ◌≤◌, ◌<◌}
 use mathlib.Core.Path.{◌≡◌, refl}
+use mathlib.Core.Bool.{cond, ◌||◌}
+use borrow.Author.Tests.{ne_eqb}
+use lib.Dec.{eqb}
+use Rattle.std.specs.List.{count_by}
+use Rattle.std.proofs.lemmas.List.Recursion.{is_count_by}
 use mathlib.Core.List.{List, [], ◌∷◌, ◌++◌}
 use native.Mathlib.Omega.{arith}
+use native.Mathlib.Nat.{zero-add}
 use native.Mathlib.Numerals.{add-one}
 use lib.ListN.{length, get_or, take}
 use lib.Seq.{take-suc, take-length}
@@ -28,6 +34,17 @@ heard_le (x ∷ a) = omega (arith, heard_le a, hears_le x)
 pub heard_nil : heard [] ≡ 0
 unfolding heard
 heard_nil = refl
+
+-- it is how many labels pass a test
+pub heard_count : (a : List ℕ) → heard a ≡ count_by (λ x. eqb x 1 || eqb x 2) a
+unfolding heard hears
+heard_count = is_count_by heard (λ x. eqb x 1 || eqb x 2) refl step
+  where
+    step : (x : ℕ) (a : List ℕ) → heard (x ∷ a) ≡ cond (eqb x 1 || eqb x 2) (1 + heard a) (heard a)
+    step zero a = zero-add (heard a)
+    step (suc zero) a = refl
+    step (suc (suc zero)) a = refl
+    step (suc (suc (suc x))) a = rw (ne_eqb (suc (suc (suc x))) 1 (λ e. omega arith), ne_eqb (suc (suc (suc x))) 2 (λ e. omega arith)) (zero-add (heard a))
 
 heard_one : (x : ℕ) → heard (x ∷ []) ≡ hears x
 unfolding heard

@@ -1,5 +1,4 @@
 -- Laws of label lists and of the tests that decide statements about them.
-pub mod Cases
 pub mod Heard
 pub mod Search
 pub mod Best

@@ -1,6 +1,6 @@
-// Permissions: which labels a row may have, as a number whose bit x permits the label x.
-ghost use Rattle.std.specs.Prelude.{◌≡◌, ◌&&◌};
-ghost use Rattle.labels.specs.Permission.{permits, bit, permission, restrict, only, label_of};
+// Permissions: which labels a row may have, as a number whose bit x permits the label x. They stay bytes with functions, not a type with methods: the core keeps them in lent lists of bytes, as it has no memory of its own.
+ghost use Rattle.std.specs.Prelude.{◌≡◌};
+ghost use Rattle.labels.specs.Permission.{permits, permission, restrict, only, label_of};
 
 // Whether a permission permits a label.
 pub fn may_have(perm: u8, label: u8) -> bool
@@ -15,6 +15,7 @@ pub fn may_have(perm: u8, label: u8) -> bool
 }
 
 // The permission of a label alone.
+#[tactic(auto, unfolding(crate::specs::Permission::only))]
 pub fn only_label(label: u8) -> u8
     ensures { result ≡ only label }
 {
@@ -27,6 +28,7 @@ pub fn only_label(label: u8) -> u8
 }
 
 // The label of a permission that permits one label alone.
+#[tactic(auto, unfolding(crate::specs::Permission::label_of))]
 pub fn label_of(perm: u8) -> u8
     ensures { result ≡ label_of perm }
 {
@@ -38,25 +40,12 @@ pub fn label_of(perm: u8) -> u8
     }
 }
 
-// 1 where the test holds, else 0.
-fn bit(test: bool) -> u8
-    ensures { result ≡ bit test }
-{
-    if test { 1 } else { 0 }
-}
-
 // The permission of the labels 0, 1 and 2 that the tests say.
+#[tactic(auto, unfolding(crate::specs::Permission::permission))]
 pub fn permission_of(zero: bool, one: bool, two: bool) -> u8
     ensures { result ≡ permission zero one two }
 {
-    bit(zero) + bit(one) * 2 + bit(two) * 4
-}
-
-// Whether a permission permits a label that may stay.
-fn may_keep(perm: u8, label: u8, stays: bool) -> bool
-    ensures { result ≡ permits perm label && stays }
-{
-    if may_have(perm, label) { stays } else { false }
+    u8::from(zero) + u8::from(one) * 2 + u8::from(two) * 4
 }
 
 // What is left of a permission where the tests say which of the labels 0, 1 and 2 may stay.
@@ -64,8 +53,8 @@ pub fn restricted(perm: u8, zero: bool, one: bool, two: bool) -> u8
     ensures { result ≡ restrict perm zero one two }
 {
     permission_of(
-        may_keep(perm, 0, zero),
-        may_keep(perm, 1, one),
-        may_keep(perm, 2, two),
+        may_have(perm, 0) && zero,
+        may_have(perm, 1) && one,
+        may_have(perm, 2) && two,
     )
 }

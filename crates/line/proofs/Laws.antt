@@ -6,7 +6,7 @@ use Prim.Native.Nat.{ℕ, zero, suc, ◌+◌, ◌-◌, ◌≤◌, ◌<◌}
 use native.Mathlib.Numerals.{sub-one}
 use native.Mathlib.Omega.{arith}
 use native.Mathlib.Nat.{le_refl}
-use borrow.Author.Tests.{leb-true, leb-false, le-leb, lt-leb}
+use borrow.Author.Tests.{leb-true, leb-false}
 use lib.Dec.{leb}
 use lib.ListN.{length, get_or, drop}
 use Rattle.labels.specs.Permission.{permits}
@@ -15,11 +15,6 @@ use Rattle.line.specs.Cells.{end_at}
 use Rattle.line.specs.Stage.{carry}
 
 -- ---- numbers and lists
-
-pub gain_pos : (v : ℕ) → (v ≡ 0 → ⊥) → v + 1 ≡ gain v
-unfolding gain
-gain_pos zero h = absurd (h refl)
-gain_pos (suc v) h = omega arith
 
 pub end_at_pos : (es : List ℕ) (a : ℕ) → (a ≡ 0 → ⊥) → get_or es (a - 1) 0 ≡ end_at es a
 end_at_pos es zero h = absurd (h refl)
@@ -104,11 +99,3 @@ carry_is next e a = by (leb e next) refl
     by : (b : Bool) → leb e next ≡ b → Carried next e a (cond b 0 a)
     by true h = over (leb-true e next h)
     by false h = live (leb-false e next h)
-
-pub carry_over : (next e a : ℕ) → e ≤ next → 0 ≡ carry next e a
-unfolding carry
-carry_over next e a h = rw (le-leb e next h)
-
-pub carry_live : (next e a : ℕ) → next < e → a ≡ carry next e a
-unfolding carry
-carry_live next e a h = rw (lt-leb e next h)

@@ -1,4 +1,4 @@
--- Laws of the turn of a row: one for the beginning, one for each step and one for the end of each loop.
+-- Laws of the turn of a row: one for each step and one for the end of each loop, and for some the beginning.
 use mathlib.Core.Path.{◌≡◌, refl, ap, sym, ◌∙◌}
 use mathlib.Core.List.{List}
 use mathlib.Core.Logic.{◌⊎◌, ⊎_elim, inl, inr}
@@ -85,9 +85,6 @@ carry_two next e a = by (carry_is next e a)
     by (live h) = inr refl
 
 module _ {L : ℕ → Type 0} {N : ℕ → ℕ → ℕ} (k a : ℕ) (t : List ℕ) where
-  pub row_none : (m : ℕ) → m ≡ k + 1 → RowMade L N k a m t t
-  row_none m e = record { new = λ b h u l. absurd (omega arith); kept = λ j h. refl; rest = refl }
-
   -- one cell more; those between it and the last one do not matter
   pub row_more : (m b : ℕ) (t' : List ℕ) (v : ℕ) → RowMade L N k a m t t' → b < m → ((y : ℕ) → b < y → y < m → L y → ⊥) → a ≤ k → b ≤ k
       → k < 64 → cell_bytes ≤ length t' → v ≡ N a b → RowMade L N k a b t (set t' (a * across + b) v)
@@ -123,9 +120,6 @@ module _ {L : ℕ → Type 0} {N : ℕ → ℕ → ℕ} (es : List ℕ) (next k 
 -- ---- the rows of cells
 
 module _ {L : ℕ → Type 0} {N : ℕ → ℕ → ℕ} (k : ℕ) (t : List ℕ) where
-  pub stage_none : (m : ℕ) → m ≡ k + 1 → StageMade L N k m t t
-  stage_none m e = record { new = λ a b h u w l. absurd (omega arith); kept = λ j h. refl; rest = refl }
-
   -- one row of cells more
   pub stage_more : (m a : ℕ) (t' t'' : List ℕ) {N' : ℕ → ℕ → ℕ} → StageMade L N k m t t' → RowMade L N' k a 0 t' t'' → a < m
       → ((y : ℕ) → a < y → y < m → L y → ⊥) → a ≤ k → k < 64

@@ -2,3 +2,4 @@
 pub mod Line
 pub mod Cells
 pub mod Stage
+pub mod RowTurns

@@ -1,47 +1,35 @@
 // What a row's mark says: whether the row must be heard, and by which receiver alone.
 #![tactic(auto)]
 
-ghost use Rattle.std.specs.Prelude.{◌≡◌, ◌||◌, eqb};
+ghost use Rattle.std.specs.Prelude.{◌≡◌};
 ghost use Rattle.marks.specs.Marks.{is_must, is_receiver1_only, is_receiver2_only, mark_allows, raised};
 
 // Refusal 7 begins above it.
 pub const MAX_MARK: u8 = 5;
 
-// Whether a mark is one of two.
-fn is_either(mark: u8, a: u8, b: u8) -> bool
-    ensures { result ≡ (eqb mark a || eqb mark b) }
-{
-    if mark == a {
-        return true;
-    }
-    mark == b
-}
-
 // Whether a row with this mark must be heard.
 pub fn is_must(mark: u8) -> bool
     ensures { result ≡ is_must mark }
 {
-    if mark == 1 {
-        return true;
-    }
-    is_either(mark, 3, 5)
+    matches!(mark, 1 | 3 | 5)
 }
 
 // Whether only receiver 1 can hear a row with this mark.
 fn is_receiver_1_only(mark: u8) -> bool
     ensures { result ≡ is_receiver1_only mark }
 {
-    is_either(mark, 2, 3)
+    matches!(mark, 2 | 3)
 }
 
 // Whether only receiver 2 can hear a row with this mark.
 fn is_receiver_2_only(mark: u8) -> bool
     ensures { result ≡ is_receiver2_only mark }
 {
-    is_either(mark, 4, 5)
+    matches!(mark, 4 | 5)
 }
 
 // Whether a row with this mark may have the label.
+#[tactic(auto, unfolding(crate::specs::Marks::mark_allows))]
 pub fn allows(mark: u8, label: u8) -> bool
     ensures { result ≡ mark_allows mark label }
 {
@@ -54,13 +42,12 @@ pub fn allows(mark: u8, label: u8) -> bool
 }
 
 // The mark of the same row as one that must be heard.
+#[tactic(auto, unfolding(crate::specs::Marks::raised))]
 pub fn raise(mark: u8) -> u8
     ensures { result ≡ raised mark }
 {
     match mark {
-        0 => 1,
-        2 => 3,
-        4 => 5,
+        0 | 2 | 4 => mark + 1,
         _ => mark,
     }
 }

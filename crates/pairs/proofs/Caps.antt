@@ -1,6 +1,6 @@
 -- Laws of `Capped` and `Most`: of an empty class, of one class or another, of classes that are tried one after the other.
 use Prim.Native.Nat.{ℕ, suc, ◌+◌, ◌≤◌, ◌<◌, max, min}
-use mathlib.Core.Path.{◌≡◌}
+use mathlib.Core.Path.{◌≡◌, refl}
 use mathlib.Core.Logic.{◌↔◌, ◌⊎◌, inl, inr, ⊎_elim}
 use mathlib.Core.List.{List}
 use native.Mathlib.Decide.{dec_le}
@@ -66,9 +66,6 @@ module _ {C : List ℕ → Type 0} where
 
 -- Classes D w that are tried from w = m downwards.
 module _ {D : ℕ → List ℕ → Type 0} {m : ℕ} where
-  pub within_none : {cap : ℕ} → Capped cap (Within D (m + 1) m) 0
-  within_none = capped_none (λ l w. omega (arith, w.low, w.high))
-
   split : (k n : ℕ) → n ≡ k + 1 → k ≤ m → (l : List ℕ) → (Within D n m l ⊎ D k l) ↔ Within D k m l
   split k n e h l = (⊎_elim more one, apart)
     where
@@ -84,9 +81,23 @@ module _ {D : ℕ → List ℕ → Type 0} {m : ℕ} where
           (λ q. inl (record { choice = w.choice; low = omega arith; high = w.high; member = w.member }))
           (eq-or-lt_of_le w.low)
 
+  -- beside the lists of C: none of the classes
+  pub within_begun : {C : List ℕ → Type 0} {cap r : ℕ} → Capped cap C r → Capped cap (λ l. C l ⊎ Within D (m + 1) m l) r
+  within_begun p = capped_iff (λ l. (inl, ⊎_elim (λ c. c) (λ w. absurd (omega (arith, w.low, w.high))))) p
+
   -- one class more
-  pub within_more : {cap r s : ℕ} (k n : ℕ) → n ≡ k + 1 → k ≤ m → Capped cap (Within D n m) r → Capped cap (D k) s → Capped cap (Within D k m) (max r s)
-  within_more k n e h p q = capped_iff (split k n e h) (capped_either p q)
+  pub within_more : {C : List ℕ → Type 0} {cap r s : ℕ} (k n : ℕ) → n ≡ k + 1 → k ≤ m → Capped cap (λ l. C l ⊎ Within D n m l) r → Capped cap (D k) s
+      → Capped cap (λ l. C l ⊎ Within D k m l) (max r s)
+  within_more {C} k n e h p q = capped_iff both (capped_either p q)
+    where
+      both : (l : List ℕ) → ((C l ⊎ Within D n m l) ⊎ D k l) ↔ (C l ⊎ Within D k m l)
+      both l =
+          let f = split k n e h l in
+          (⊎_elim (⊎_elim inl (λ w. inr (f.0 (inl w)))) (λ d. inr (f.0 (inr d))), ⊎_elim (λ c. inl (inl c)) (λ w. ⊎_elim (λ v. inl (inr v)) inr (f.1 w)))
+
+  -- the classes over k and the class k
+  pub within_joined : {cap r : ℕ} (k : ℕ) → k ≤ m → Capped cap (λ l. Within D (k + 1) m l ⊎ D k l) r → Capped cap (Within D k m) r
+  within_joined k h p = capped_iff (split k (k + 1) refl h) p
 
   -- a class that reaches the cap
   pub within_reached : {cap : ℕ} (k : ℕ) → k ≤ m → Capped cap (D k) cap → Capped cap (Within D 0 m) cap

@@ -5,26 +5,16 @@ use mathlib.Core.Logic.{◌↔◌, ◌≢◌}
 use mathlib.Core.Bool.{Bool, true, false, cond, false≢true}
 use mathlib.Core.List.{List}
 use native.Mathlib.Omega.{arith}
-use borrow.Author.Tests.{eqb-true, eq-eqb, lt-ltb, le-ltb, le-leb, lt-leb}
+use borrow.Author.Tests.{eqb-true, eq-eqb, lt-ltb, le-ltb}
 use borrow.Author.Count.{below_more}
-use lib.Dec.{leb, eqb}
+use lib.Dec.{eqb}
 use lib.ListN.{length, set}
 use lib.Seq.{get_or-set_same, get_or-set_other}
 use Rattle.basics.specs.Lists.{at}
 use Rattle.basics.proofs.Lists.{at_map}
-use Rattle.labels.specs.Permission.{permits, restrict}
+use Rattle.labels.specs.Permission.{permits}
 use Rattle.labels.proofs.Permissions.{restrict_iff, restrict_some}
 use Rattle.pairs.specs.Pairs.{gathered, beside, pair_label, leaves, left_of, LeftAll}
-
-module _ (positions ends : List ℕ) (m w k : ℕ) where
-  pub beside_none : m ≤ w → true ≡ beside positions ends m w k
-  beside_none h = rw (le-leb m w h)
-
-  pub beside_early : w < m → at positions k < at ends w → false ≡ beside positions ends m w k
-  beside_early h b = rw (lt-leb m w h, lt-leb (at ends w) (at positions k) b)
-
-  pub beside_late : w < m → at ends w ≤ at positions k → leb (at ends k) (at positions w) ≡ beside positions ends m w k
-  beside_late h b = rw (lt-leb m w h, le-leb (at ends w) (at positions k) b)
 
 module _ (positions ends : List ℕ) (m w1 w2 : ℕ) where
   -- the crossing row of receiver x
@@ -79,22 +69,12 @@ module _ (positions ends : List ℕ) (m w1 w2 : ℕ) where
       let p = restrict_some q (leaves positions ends m w1 w2 k) s in
       subst (λ (x : ℕ). permits (left_of positions ends m w1 w2 k q) x ≡ true) (sym ((leaves_front k p.0 h).0 ((left_iff k q p.0).0 p.1).1)) p.1
 
-  pub left_front : (k q g r : ℕ) → k < m → g ≡ pair_label positions ends m w1 w2 k → r ≡ restrict q (eqb g 0) (eqb g 1) (eqb g 2) → r ≡ left_of positions ends m w1 w2 k q
-  left_front k q g r h e d = rw (d, e, lt-ltb k m h)
-
-  pub left_rest : (k q r : ℕ) (a b : Bool) → m ≤ k → a ≡ beside positions ends m w1 k → b ≡ beside positions ends m w2 k → r ≡ restrict q true a b
-      → r ≡ left_of positions ends m w1 w2 k q
-  left_rest k q r a b h e f d = rw (d, e, f, le-ltb k m h)
-
   pub left_gathered : (order perms : List ℕ) (k row r : ℕ) → k < length order → row ≡ at order k → r ≡ left_of positions ends m w1 w2 k (at perms row)
       → r ≡ left_of positions ends m w1 w2 k (at (gathered order perms) k)
   left_gathered order perms k row r h e d = d ∙ ap (left_of positions ends m w1 w2 k) (ap (at perms) e ∙ sym (at_map (at perms) order k h))
 
   -- the rows one by one
   module _ (perms : List ℕ) where
-    pub left_all_none : {left : List ℕ} → LeftAll positions ends perms m w1 w2 0 left
-    left_all_none = record { each = λ k h. absurd (omega arith); some = λ k h. absurd (omega arith) }
-
     pub left_all_more : {left : List ℕ} (k r : ℕ) → k < length left → r ≡ left_of positions ends m w1 w2 k (at perms k) → (r ≡ 0 → ⊥)
         → LeftAll positions ends perms m w1 w2 k left → LeftAll positions ends perms m w1 w2 (k + 1) (set left k r)
     left_all_more {left} k r h e n L =

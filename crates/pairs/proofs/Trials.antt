@@ -1,36 +1,23 @@
 -- What the functions that try pairs rest on: when a pair has no labels, its value as far as the cap, and that what they are lent serves again.
-use Prim.Native.Nat.{ℕ, zero, suc, ◌+◌, ◌-◌, ◌≤◌, ◌<◌, min, max}
-use mathlib.Core.Path.{◌≡◌, refl, sym, ap, subst, ◌∙◌}
+use Prim.Native.Nat.{ℕ, ◌+◌, ◌-◌, ◌≤◌, ◌<◌, min, max}
+use mathlib.Core.Path.{◌≡◌, sym, ap, subst, ◌∙◌}
+use mathlib.Core.Logic.{◌⊎◌}
 use mathlib.Core.Bool.{Bool, true, false, false≢true}
 use mathlib.Core.List.{List}
 use native.Mathlib.Decide.{dec_lt}
 use native.Mathlib.Omega.{arith}
-use lib.Dec.{ltb}
-use lib.ListN.{length, take, drop, get_or, length-drop}
-use lib.Seq.{get_or-drop, take_all}
+use lib.ListN.{length, drop, get_or}
+use lib.Seq.{get_or-drop}
 use Rattle.basics.specs.Lists.{at}
-use Rattle.basics.proofs.Tests.{and_iff, ltb_iff, eqb_iff, cond_le}
+use Rattle.basics.proofs.Tests.{and_iff, ltb_iff, eqb_iff}
 use Rattle.line.specs.Line.{Line, best, rows}
-use Rattle.line.specs.Cells.{low_at, Lows, cell_bytes}
-use Rattle.pairs.specs.Capped.{Capped, Rows, Ready}
-use Rattle.pairs.specs.Pairs.{gathered, Cleared, PairFit, Within, Leaving, twice, one, with_pair}
+use Rattle.line.specs.Cells.{low_at, cell_bytes}
+use Rattle.pairs.specs.Capped.{Capped, Ready}
+use Rattle.pairs.specs.Pairs.{gathered, Cleared, PairFit, SecondFit, Within, Leaving, twice, one, with_pair}
 use Rattle.pairs.proofs.Fits.{AnyFit, fit_iff}
-use Rattle.pairs.proofs.Caps.{most_capped, capped_iff, within_none, within_more, within_reached}
+use Rattle.pairs.proofs.Caps.{most_capped, capped_iff, within_begun, within_more, within_joined, within_reached}
 use Rattle.labels.proofs.Permissions.{none_permitted}
 use Rattle.pairs.proofs.Value.{line, pair_most, best_le}
-
-pub one_le : (m w : ℕ) → one m w ≤ 1
-one_le m w = cond_le (ltb w m) (omega arith)
-
-pub with_none : (m w1 w2 v : ℕ) → v ≡ 0 → 0 ≡ with_pair m w1 w2 v
-unfolding with_pair
-with_none m w1 w2 zero e = refl
-with_none m w1 w2 (suc c) e = absurd (omega arith)
-
-pub with_some : (m w1 w2 v a b : ℕ) → (v ≡ 0 → ⊥) → a ≡ one m w1 → b ≡ one m w2 → v + a + b ≡ with_pair m w1 w2 v
-unfolding with_pair
-with_some m w1 w2 zero a b n e f = absurd (n refl)
-with_some m w1 w2 (suc c) a b n e f = rw (e, f)
 
 -- ---- a pair without labels
 
@@ -57,17 +44,6 @@ low_same : (s t : List ℕ) (k : ℕ) → drop cell_bytes t ≡ drop cell_bytes 
 low_same s t k e = sym (get_or-drop cell_bytes t k 0) ∙ ap (λ (l : List ℕ). get_or l k 0) e ∙ get_or-drop cell_bytes s k 0
 
 module _ {positions ends order perms : List ℕ} {m cap : ℕ} {left space : List ℕ} (R : Ready positions ends order perms m cap left space) where
-  pub ready_rows : Rows positions ends order perms m left
-  ready_rows =
-      record {
-        each_end = R.each_end;
-        each_order = R.each_order;
-        each_perm = R.each_perm;
-        each_left = R.each_left;
-        within = R.crossing.within;
-        row = R.row;
-      }
-
   -- the next pair is lent the same, if the room has kept its length and the low rows
   pub ready_again : {left' space' : List ℕ} → length left' ≡ length left → length space' ≡ length space → drop cell_bytes space' ≡ drop cell_bytes space
       → Ready positions ends order perms m cap left' space'
@@ -109,57 +85,41 @@ module _ {positions ends order perms : List ℕ} {m cap : ℕ} {left space : Lis
         (pair_most positions ends (gathered order perms) left' m w1 w2 R.each_end (same ∙ R.each_left) R.crossing (L.all taken) (twice_distinct m w1 w2 t) R.few
         R.ordered v (sym e)))
 
--- ---- a loop over classes D w, from w = m downwards
+-- ---- the loops over pairs, from (m, m) downwards
 
--- the classes from w on are tried, and the room has kept its length and the low rows
-pub record Tried (cap : ℕ) (D : ℕ → List ℕ → Type 0) (m w : ℕ) (left₀ left space₀ space : List ℕ) (best : ℕ) : Type 0 where
-  pub within : w ≤ m + 1
-  pub same_left : length left ≡ length left₀
-  pub same_space : length space ≡ length space₀
+-- the class C is tried, and the space has kept the low rows
+pub record Tried (cap : ℕ) (C : List ℕ → Type 0) (space₀ space : List ℕ) (best : ℕ) : Type 0 where
   pub frame : drop cell_bytes space ≡ drop cell_bytes space₀
-  pub most : Capped cap (Within D w m) best
+  pub most : Capped cap C best
 
-pub tried_none : {cap : ℕ} {D : ℕ → List ℕ → Type 0} {m : ℕ} {left space : List ℕ} → Tried cap D m (m + 1) left left space space 0
-tried_none = record { within = omega arith; same_left = refl; same_space = refl; frame = refl; most = within_none }
+module _ (positions ends perms : List ℕ) (m : ℕ) where
+  -- labels of pairs with their first row from n on
+  abbrev pub FirstFrom : ℕ → List ℕ → Type 0
+  FirstFrom n = Within (SecondFit positions ends perms m) n m
 
-module _ {cap : ℕ} {D : ℕ → List ℕ → Type 0} {m w : ℕ} {left₀ left space₀ space : List ℕ} {best : ℕ} (t : Tried cap D m w left₀ left space₀ space best) where
-  pub tried_ready : {positions ends order perms : List ℕ} → Ready positions ends order perms m cap left₀ space₀ → Ready positions ends order perms m cap left space
-  tried_ready R = ready_again R t.same_left t.same_space t.frame
+  -- labels of pairs with their first row over w1, or with w1 and their second row from n on
+  abbrev pub SecondFrom : ℕ → ℕ → List ℕ → Type 0
+  SecondFrom w1 n l = FirstFrom (w1 + 1) l ⊎ Within (PairFit positions ends perms m w1) n m l
 
-  pub tried_all : w ≤ 0 → Capped cap (Within D 0 m) best × (drop cell_bytes space ≡ drop cell_bytes space₀)
-  tried_all h = (subst (λ (k : ℕ). Capped cap (Within D k m) best) (omega arith) t.most, t.frame)
+module _ {positions ends perms : List ℕ} {m cap w1 : ℕ} where
+  -- a pair that reaches the cap
+  pub tried_reached : {w2 v : ℕ} → w1 ≤ m → w2 ≤ m → cap ≤ v → Capped cap (PairFit positions ends perms m w1 w2) v → Capped cap (AnyFit positions ends perms m) cap
+  tried_reached {w2} a b h K =
+      within_reached w1 a (within_reached w2 b (subst (λ (x : ℕ). Capped cap (PairFit positions ends perms m w1 w2) x) (omega (arith, K.within)) K))
 
-  -- one class more
-  module _ {v : ℕ} (some : 0 < w) (one : Capped cap (D (w - 1)) v) where
-    pub tried_more : {left' space' : List ℕ} {r : ℕ} → length left' ≡ length left → length space' ≡ length space → drop cell_bytes space' ≡ drop cell_bytes space → r ≡ max best v
-        → Tried cap D m (w - 1) left₀ left' space₀ space' r
-    tried_more a b f e =
-        record {
-          within = omega (arith, t.within);
-          same_left = a ∙ t.same_left;
-          same_space = b ∙ t.same_space;
-          frame = f ∙ t.frame;
-          most = subst (λ (x : ℕ). Capped cap (Within D (w - 1) m) x) (sym e) (within_more (w - 1) w (omega arith) (omega (arith, t.within)) t.most one);
-        }
+  module _ {best n : ℕ} {space₀ space : List ℕ} where
+    -- no pair with w1
+    pub tried_first : Tried cap (FirstFrom positions ends perms m n) space₀ space best → n ≡ w1 + 1 → Tried cap (SecondFrom positions ends perms m w1 (m + 1)) space₀ space best
+    tried_first t e = record { frame = t.frame; most = within_begun (rw e at t.most) }
 
-    pub tried_reached : {s : List ℕ} → cap ≤ v → s ≡ drop cell_bytes space → Capped cap (Within D 0 m) cap × (s ≡ drop cell_bytes space₀)
-    tried_reached h f =
-        (within_reached (w - 1) (omega (arith, t.within)) (subst (λ (x : ℕ). Capped cap (D (w - 1)) x) (omega (arith, one.within)) one), f ∙ t.frame)
+    -- one pair more
+    pub tried_more : {v r : ℕ} {space' : List ℕ} → Tried cap (SecondFrom positions ends perms m w1 n) space₀ space best → 0 < n → n ≤ m + 1
+        → Capped cap (PairFit positions ends perms m w1 (n - 1)) v × (drop cell_bytes space' ≡ drop cell_bytes space) → r ≡ max best v
+        → Tried cap (SecondFrom positions ends perms m w1 (n - 1)) space₀ space' r
+    tried_more {v} t a b one e = record { frame = one.1 ∙ t.frame; most = rw e (within_more (n - 1) n (omega arith) (omega arith) t.most one.0) }
 
--- ---- the rows from m on, as a call is handed them
-
-abbrev rest : ℕ → List ℕ → List ℕ
-rest m l = take (length l - m) (drop m l)
-
-rest_all : (m : ℕ) (l : List ℕ) → rest m l ≡ drop m l
-rest_all m l = take_all (length l - m) (drop m l) (omega (arith, length-drop m l))
-
-module _ (m : ℕ) (ss es ps : List ℕ) where
-  pub rest_line : Line (drop m ss) (drop m es) (drop m ps) → Line (rest m ss) (rest m es) (rest m ps)
-  rest_line h = rw (rest_all m ss, rest_all m es, rest_all m ps) h
-
-  pub rest_lows : (space : List ℕ) → Lows (drop m ss) (drop m es) space → Lows (rest m ss) (rest m es) space
-  rest_lows space h = rw (rest_all m ss, rest_all m es) h
-
-  pub rest_value : {r : ℕ} → r ≡ best (rows (rest m ss) (rest m es) (rest m ps)) 0 0 → r ≡ best (rows (drop m ss) (drop m es) (drop m ps)) 0 0
-  rest_value e = rw (rest_all m ss, rest_all m es, rest_all m ps) at e
+    -- all pairs with w1
+    pub tried_all : Tried cap (SecondFrom positions ends perms m w1 n) space₀ space best → n ≤ 0 → w1 ≤ m → Tried cap (FirstFrom positions ends perms m w1) space₀ space best
+    tried_all t e h =
+        let z : n ≡ 0 = omega arith in
+        record { frame = t.frame; most = within_joined w1 h (rw z at t.most) }

@@ -1,8 +1,11 @@
--- Items and their parts: the operands of a command that stands at a place lie on the tape, and are those of the bytes from the place on.
+-- Items and their parts: the operands of a command that stands at a place lie on the tape, and are those of the bytes from the place on; an item of one command is none of another.
 use Prim.Native.Nat.{ℕ, ◌+◌, ◌<◌}
 use mathlib.Core.Path.{◌≡◌, sym}
 use mathlib.Core.Bool.{true}
-use mathlib.Core.List.{List}
+use mathlib.Core.Logic.{⊎_elim}
+use mathlib.Core.List.{List, [], ◌∷◌}
+use native.Mathlib.Omega.{arith}
+use types.Run.{OneOf}
 use denote.Enum.Declared.{tag_of}
 use lib.ListN.{length, get_or, drop}
 use lib.Seq.{get_or-drop}
@@ -11,8 +14,10 @@ use Rattle.window.specs.declared.Kind.TheVariants.{Round, Run}
 use Rattle.tape.specs.Commands.{RECEIVER, LISTEN, operand_bytes, begins}
 use Rattle.tape.proofs.Heads.{begins_at}
 use Rattle.plan_tape.specs.PlanTapes.{kind_command}
+use Rattle.plan_reader.specs.declared.Head.{Head}
+use Rattle.plan_reader.specs.declared.Listen.{Listen}
 use Rattle.plan_reader.specs.declared.Item.{Item}
-use Rattle.plan_reader.specs.declared.Item.TheVariants.{Head, Receiver, Listen, Stop, Broken}
+use Rattle.plan_reader.specs.declared.Item.TheVariants as item
 use Rattle.plan_reader.specs.contracts.Item as ItemType
 
 module _ (s : List ℕ) (at : ℕ) where
@@ -33,56 +38,25 @@ module _ (s : List ℕ) (at : ℕ) where
   pub byte_at : (i : ℕ) → get_or s (at + i) 0 ≡ get_or (drop at s) i 0
   byte_at i = sym (get_or-drop at s i 0)
 
--- ---- an item taken apart: the number of its command, and its fields
+-- ---- an item that is another command, by the number of its variant
 
-abbrev pub tag : Item → ℕ
+abbrev tag : Item → ℕ
 tag = tag_of ItemType.the_type
 
-abbrev pub row_of : Item → ℕ
-row_of (Head kind ticks next) = 0
-row_of (Receiver number next) = 0
-row_of (Listen row start end next) = row
-row_of (Stop next) = 0
-row_of Broken = 0
+pub not_head : {x : Item} → OneOf (1 ∷ 2 ∷ 3 ∷ []) (tag x) → (head : Head) (next : ℕ) → x ≡ item.Head head next → ⊥
+not_head h head next e = none (rw e at h)
+  where
+    none : OneOf (1 ∷ 2 ∷ 3 ∷ []) 0 → ⊥
+    none = ⊎_elim (λ z. omega (arith, z)) (⊎_elim (λ z. omega (arith, z)) (λ z. omega (arith, z)))
 
-abbrev pub start_of : Item → ℕ
-start_of (Head kind ticks next) = 0
-start_of (Receiver number next) = 0
-start_of (Listen row start end next) = start
-start_of (Stop next) = 0
-start_of Broken = 0
+pub not_receiver : {x : Item} → OneOf (0 ∷ 2 ∷ 3 ∷ []) (tag x) → (number next : ℕ) → x ≡ item.Receiver number next → ⊥
+not_receiver h number next e = none (rw e at h)
+  where
+    none : OneOf (0 ∷ 2 ∷ 3 ∷ []) 1 → ⊥
+    none = ⊎_elim (λ z. omega (arith, z)) (⊎_elim (λ z. omega (arith, z)) (λ z. omega (arith, z)))
 
-abbrev pub end_of : Item → ℕ
-end_of (Head kind ticks next) = 0
-end_of (Receiver number next) = 0
-end_of (Listen row start end next) = end
-end_of (Stop next) = 0
-end_of Broken = 0
-
-abbrev pub next_of : Item → ℕ
-next_of (Head kind ticks next) = next
-next_of (Receiver number next) = next
-next_of (Listen row start end next) = next
-next_of (Stop next) = next
-next_of Broken = 0
-
-abbrev pub kind_of : Item → Kind
-kind_of (Head kind ticks next) = kind
-kind_of (Receiver number next) = Round
-kind_of (Listen row start end next) = Round
-kind_of (Stop next) = Round
-kind_of Broken = Round
-
-abbrev pub ticks_of : Item → ℕ
-ticks_of (Head kind ticks next) = ticks
-ticks_of (Receiver number next) = 0
-ticks_of (Listen row start end next) = 0
-ticks_of (Stop next) = 0
-ticks_of Broken = 0
-
-abbrev pub number_of : Item → ℕ
-number_of (Head kind ticks next) = 0
-number_of (Receiver number next) = number
-number_of (Listen row start end next) = 0
-number_of (Stop next) = 0
-number_of Broken = 0
+pub not_listen : {x : Item} → OneOf (0 ∷ 1 ∷ 3 ∷ []) (tag x) → (w : Listen) (next : ℕ) → x ≡ item.Listen w next → ⊥
+not_listen h w next e = none (rw e at h)
+  where
+    none : OneOf (0 ∷ 1 ∷ 3 ∷ []) 2 → ⊥
+    none = ⊎_elim (λ z. omega (arith, z)) (⊎_elim (λ z. omega (arith, z)) (λ z. omega (arith, z)))

@@ -1,12 +1,10 @@
 -- The LISTENs of a tape one after the other: what is known of the place where an item is a LISTEN, and where it is none.
 use Prim.Native.Nat.{ℕ, ◌+◌, ◌≤◌, ◌<◌}
-use mathlib.Core.Path.{◌≡◌, refl, sym, ap, ◌∙◌}
-use mathlib.Core.Logic.{⊎_elim}
+use mathlib.Core.Path.{◌≡◌, refl, ap, ◌∙◌}
 use mathlib.Core.Bool.{Bool, true, false, cond}
 use mathlib.Core.List.{List, [], ◌∷◌}
 use native.Mathlib.Omega.{arith}
 use borrow.Author.Tests.{eq-eqb, lt-ltb}
-use types.Run.{OneOf}
 use lib.ListN.{length, get_or, drop}
 use lib.Seq.{drop-drop}
 use Rattle.window.specs.declared.Kind.TheVariants.{Round, Run}
@@ -14,10 +12,11 @@ use Rattle.tape.specs.Commands.{ROUND, RUN, RECEIVER, LISTEN, STOP, operand_byte
 use Rattle.tape.specs.Words.{word_at}
 use Rattle.tape.proofs.Heads.{begins_iff}
 use Rattle.plan_tape.specs.Stated.{listen_of, listens_in, after_listens}
-use Rattle.plan_reader.specs.declared.Item.{Item}
-use Rattle.plan_reader.specs.declared.Item.TheVariants.{Listen, Stop, Broken}
-use Rattle.plan_reader.specs.Items.{listen_at, receiver_at, head_at, item_of, item_at}
-use Rattle.plan_reader.proofs.Items.{listen_whole, tag, row_of, start_of, end_of, next_of}
+use Rattle.std.specs.Prelude.{Some, None}
+use Rattle.plan_reader.specs.declared.Listen.{Listen as Read}
+use Rattle.plan_reader.specs.declared.Item.TheVariants as item
+use Rattle.plan_reader.specs.Items.{read_of, stated_listen, listen_at, receiver_at, head_at, item_of, item_at}
+use Rattle.plan_reader.proofs.Items.{listen_whole}
 
 -- ---- LISTENs at the front of bytes
 
@@ -49,23 +48,25 @@ listens_none (command ∷ row ∷ a ∷ b ∷ c ∷ d ∷ rest) e =
 -- ---- items that are LISTENs
 
 -- no other command is a LISTEN
-other_tag : (s : List ℕ) (at : ℕ) → begins LISTEN s ≡ false → tag (item_of s at) ≡ 2 → ⊥
+other_item : (s : List ℕ) (at : ℕ) → begins LISTEN s ≡ false → (w : Read) (next : ℕ) → item_of s at ≡ Some (item.Listen w next) → ⊥
 unfolding item_of
-other_tag s at e = rw e (go (begins RECEIVER s) (begins STOP s) (begins ROUND s) (begins RUN s))
+other_item s at e w next = rw e (go (begins RECEIVER s) (begins STOP s) (begins ROUND s) (begins RUN s))
   where
-    go : (p q r t : Bool) → tag (cond p (receiver_at s at) (cond q (Stop (past STOP at)) (cond r (head_at Round s at) (cond t (head_at Run s at) Broken)))) ≡ 2 → ⊥
-    go true q r t z = omega (arith, z)
-    go false true r t z = omega (arith, z)
-    go false false true t z = omega (arith, z)
-    go false false false true z = omega (arith, z)
-    go false false false false z = omega (arith, z)
+    go : (p q r t : Bool)
+        → cond p (Some (receiver_at s at)) (cond q (Some (item.Stop (past STOP at))) (cond r (Some (head_at Round s at)) (cond t (Some (head_at Run s at)) None))) ≡ Some (item.Listen w next)
+        → ⊥
+    go true q r t z = cc z
+    go false true r t z = cc z
+    go false false true t z = cc z
+    go false false false true z = cc z
+    go false false false false z = cc z
 
 module _ (s : List ℕ) (at : ℕ) where
   -- A LISTEN stands at the place.
-  pub record ListenAt (row start end next : ℕ) : Type 0 where
+  pub record ListenAt (w : Read) (next : ℕ) : Type 0 where
     pub further : at < next
     pub inside : next ≤ length s
-    pub listens : listens_in (drop at s) ≡ listen_of row start end ∷ listens_in (drop next s)
+    pub listens : listens_in (drop at s) ≡ stated_listen w ∷ listens_in (drop next s)
     pub rest : after_listens (drop at s) ≡ after_listens (drop next s)
 
   -- No LISTEN stands there.
@@ -73,35 +74,29 @@ module _ (s : List ℕ) (at : ℕ) where
     pub listens : listens_in (drop at s) ≡ []
     pub rest : after_listens (drop at s) ≡ drop at s
 
-  pub listen_at_of : {x : Item} (row start end next : ℕ) → x ≡ item_at s at → x ≡ Listen row start end next → ListenAt row start end next
+  pub listen_at_of : (w : Read) (next : ℕ) → item_at s at ≡ Some (item.Listen w next) → ListenAt w next
   unfolding item_of operand_bytes
-  listen_at_of {x} row start end next e f = go (begins LISTEN (drop at s)) refl
+  listen_at_of w next same = go (begins LISTEN (drop at s)) refl
     where
-      same : item_at s at ≡ Listen row start end next
-      same = sym e ∙ f
-
-      go : (b : Bool) → begins LISTEN (drop at s) ≡ b → ListenAt row start end next
-      go false h = absurd (other_tag (drop at s) at h (ap tag same))
+      go : (b : Bool) → begins LISTEN (drop at s) ≡ b → ListenAt w next
+      go false h = absurd (other_item (drop at s) at h w next same)
       go true h =
-          let made : listen_at (drop at s) at ≡ Listen row start end next = rw h at same in
+          let made : Some (listen_at (drop at s) at) ≡ Some (item.Listen w next) = rw h at same in
           let begun = (begins_iff LISTEN (drop at s)).0 h in
           let front = listens_more (drop at s) begun.0 begun.1 in
-          let n : at + 6 ≡ next = ap next_of made in
+          let n : at + 6 ≡ next = cc made in
+          let read : read_of (get_or (drop at s) 1 0) (word_at (drop at s) 2) (word_at (drop at s) 4) ≡ w = cc made in
           record {
             further = omega (arith, n);
             inside = omega (arith, n, listen_whole s at h);
-            listens = front.0
-                ∙ (λ i. listen_of (ap row_of made i) (ap start_of made i) (ap end_of made i) ∷ listens_in ((drop-drop 6 at s ∙ ap (λ (k : ℕ). drop k s) n) i));
+            listens = front.0 ∙ (λ i. stated_listen (read i) ∷ listens_in ((drop-drop 6 at s ∙ ap (λ (k : ℕ). drop k s) n) i));
             rest = front.1 ∙ ap after_listens (drop-drop 6 at s ∙ ap (λ (k : ℕ). drop k s) n);
           }
 
-  pub no_listen : {x : Item} → x ≡ item_at s at → OneOf (0 ∷ 1 ∷ 3 ∷ 4 ∷ []) (tag x) → NoListen
+  pub no_listen : ((w : Read) (next : ℕ) → item_at s at ≡ Some (item.Listen w next) → ⊥) → NoListen
   unfolding item_of
-  no_listen {x} e h = go (begins LISTEN (drop at s)) refl
+  no_listen none = go (begins LISTEN (drop at s)) refl
     where
-      none : OneOf (0 ∷ 1 ∷ 3 ∷ 4 ∷ []) 2 → ⊥
-      none = ⊎_elim (λ z. omega (arith, z)) (⊎_elim (λ z. omega (arith, z)) (⊎_elim (λ z. omega (arith, z)) (λ z. omega (arith, z))))
-
       go : (b : Bool) → begins LISTEN (drop at s) ≡ b → NoListen
       go false f = let n = listens_none (drop at s) f in record { listens = n.0; rest = n.1 }
-      go true f = absurd (none (rw f at (rw e at h)))
+      go true f = absurd (none (read_of (get_or (drop at s) 1 0) (word_at (drop at s) 2) (word_at (drop at s) 4)) (past LISTEN at) (rw f refl))

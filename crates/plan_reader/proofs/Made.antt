@@ -1,4 +1,5 @@
 -- A tape that the writer makes, with any gap and any hours, passes the test of a plan tape.
+use Rattle.refusals.specs.Refusals.{Accepted}
 use Prim.Native.Nat.{ℕ, ◌+◌, ◌≤◌, ◌<◌}
 use mathlib.Core.Path.{◌≡◌, sym, ap, ◌∙◌}
 use mathlib.Core.Bool.{true}
@@ -8,7 +9,6 @@ use lib.ListN.{length, take}
 use Rattle.basics.specs.Lists.{at}
 use Rattle.window.specs.declared.Kind.{Kind}
 use Rattle.window.specs.Gaps.{overlap}
-use Rattle.refusals.specs.declared.Refusal.TheVariants.{Accepted}
 use Rattle.table.specs.Tables.{Table, Valid, Plan}
 use Rattle.plan_tape.specs.PlanTapes.{rows_of}
 use Rattle.plan_tape.specs.Stated.{Listen, listen_of}

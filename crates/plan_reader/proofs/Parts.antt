@@ -13,26 +13,25 @@ use Rattle.basics.proofs.Tests.{leb_iff, ltb_iff, eqb_iff, and_iff, not_iff}
 use Rattle.window.specs.declared.Kind.{Kind}
 use Rattle.window.specs.Windows.{Window, Overlap}
 use Rattle.window.proofs.Meaning.{window_iff, overlaps_iff}
-use Rattle.refusals.specs.declared.Refusal.TheVariants.{Ticks}
-use Rattle.refusals.specs.Refusals.{asked, passes}
+use Rattle.refusals.specs.Refusals.{asked, passes, Ticks}
 use Rattle.table.specs.Checks.{ticks_refusal}
 use Rattle.plan_tape.specs.Stated.{Listen, Stated, stated}
-use Rattle.plan_reader.specs.Judged.{all_of, is_listen, is_other, is_before, is_part, are_other, are_parts, is_judged, is_formed, is_plan_tape}
+use Rattle.std.specs.List.{list_all}
+use Rattle.plan_reader.specs.Judged.{is_listen, is_other, is_before, is_part, are_other, are_parts, is_judged, is_formed, is_plan_tape}
 use Rattle.plan_reader.proofs.Rises.{Rises, rises_from, raised}
 
 -- the test holds of each member
-pub all_iff : (p : Listen → Bool) (ws : List Listen) → (all_of p ws ≡ true) ↔ ((w : Listen) → Memᴰ w ws → p w ≡ true)
-unfolding all_of
+pub all_iff : (p : Listen → Bool) (ws : List Listen) → (list_all p ws ≡ true) ↔ ((w : Listen) → Memᴰ w ws → p w ≡ true)
 all_iff p ws = (there ws, back ws)
   where
-    there : (ws : List Listen) → all_of p ws ≡ true → (w : Listen) → Memᴰ w ws → p w ≡ true
+    there : (ws : List Listen) → list_all p ws ≡ true → (w : Listen) → Memᴰ w ws → p w ≡ true
     there [] e w m = absurd (Memᴰ.not-nil m)
-    there (v ∷ ws) e w (Memᴰ.head q) = ap p q ∙ ((and-eq-true_iff (p v) (all_of p ws)).0 e).0
-    there (v ∷ ws) e w (Memᴰ.tail m) = there ws ((and-eq-true_iff (p v) (all_of p ws)).0 e).1 w m
+    there (v ∷ ws) e w (Memᴰ.head q) = ap p q ∙ ((and-eq-true_iff (p v) (list_all p ws)).0 e).0
+    there (v ∷ ws) e w (Memᴰ.tail m) = there ws ((and-eq-true_iff (p v) (list_all p ws)).0 e).1 w m
 
-    back : (ws : List Listen) → ((w : Listen) → Memᴰ w ws → p w ≡ true) → all_of p ws ≡ true
+    back : (ws : List Listen) → ((w : Listen) → Memᴰ w ws → p w ≡ true) → list_all p ws ≡ true
     back [] f = refl
-    back (v ∷ ws) f = (and-eq-true_iff (p v) (all_of p ws)).1 (f v (Memᴰ.head refl), back ws (λ w m. f w (Memᴰ.tail m)))
+    back (v ∷ ws) f = (and-eq-true_iff (p v) (list_all p ws)).1 (f v (Memᴰ.head refl), back ws (λ w m. f w (Memᴰ.tail m)))
 
 -- the LISTENs that one receiver can have
 pub record Part (kind : Kind) (R : ℕ) (ws : List Listen) : Type 0 where

@@ -1,4 +1,5 @@
 -- "Plan tapes are still read with g of 0" (request 4 of paper 02): so every tape that a writer with any gap writes is taken, whatever its table's hours.
+use Rattle.refusals.specs.Refusals.{Accepted}
 use Prim.Native.Nat.{ℕ}
 use mathlib.Core.Path.{◌≡◌, refl}
 use mathlib.Core.List.{List}
@@ -7,7 +8,6 @@ use lib.ListN.{take}
 use Rattle.basics.specs.Lists.{at}
 use Rattle.window.specs.Hours.{hours_from}
 use Rattle.window.proofs.Meaning.{window_end}
-use Rattle.refusals.specs.declared.Refusal.TheVariants.{Accepted}
 use Rattle.table.specs.Tables.{setting_of, Table, table, row_at, Plan, Valid}
 use Rattle.table.proofs.Plans.{allowed_alike}
 use Rattle.table.proofs.Request4.{plan_shorter}

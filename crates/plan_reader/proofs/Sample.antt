@@ -4,9 +4,10 @@ use mathlib.Core.Path.{◌≡◌, refl}
 use mathlib.Core.Bool.{true, false}
 use mathlib.Core.List.{List, [], ◌∷◌, ◌++◌}
 use Rattle.window.specs.declared.Kind.TheVariants.{Round, Run}
-use Rattle.plan_reader.specs.declared.Item.TheVariants.{Head, Receiver, Listen, Stop, Broken}
-use Rattle.plan_reader.specs.Items.{item_of, item_at}
+use Rattle.plan_reader.specs.declared.Item.TheVariants.{Head, Receiver, Listen, Stop}
+use Rattle.plan_reader.specs.Items.{head_of, read_of, item_of, item_at}
 use Rattle.plan_reader.specs.Judged.{is_plan_tape}
+use Rattle.std.specs.Prelude.{Some, None}
 
 -- ROUND or RUN with R, the LISTENs of receivers 1 and 2, and STOP
 abbrev tape : List ℕ → List ℕ → List ℕ → List ℕ
@@ -70,14 +71,14 @@ limits = (refl, refl, refl, refl)
 
 -- What stands at each place of a tape, and at places where nothing can be read: a command of a fleet tape, a LISTEN that is cut short, past the end.
 pub items :
-    (item_at (run (listen 7 2 4) []) 0 ≡ Head Run 100 3)
-    × (item_at (round [] []) 0 ≡ Head Round 100 3)
-    × (item_at (run (listen 7 2 4) []) 3 ≡ Receiver 1 5)
-    × (item_at (run (listen 7 2 4) []) 5 ≡ Listen 7 2 4 11)
-    × (item_at (run (listen 7 2 4) []) 11 ≡ Receiver 2 13)
-    × (item_at (run (listen 7 2 4) []) 13 ≡ Stop 14)
-    × (item_at (run (listen 7 2 4) []) 14 ≡ Broken)
-    × (item_at (0x40 ∷ 0x00 ∷ 0x01 ∷ 0x00 ∷ 0x02 ∷ []) 0 ≡ Broken)
-    × (item_at (0x30 ∷ 0x00 ∷ 0x00 ∷ 0x01 ∷ 0x00 ∷ []) 0 ≡ Broken)
+    (item_at (run (listen 7 2 4) []) 0 ≡ Some (Head (head_of Run 100) 3))
+    × (item_at (round [] []) 0 ≡ Some (Head (head_of Round 100) 3))
+    × (item_at (run (listen 7 2 4) []) 3 ≡ Some (Receiver 1 5))
+    × (item_at (run (listen 7 2 4) []) 5 ≡ Some (Listen (read_of 7 2 4) 11))
+    × (item_at (run (listen 7 2 4) []) 11 ≡ Some (Receiver 2 13))
+    × (item_at (run (listen 7 2 4) []) 13 ≡ Some (Stop 14))
+    × (item_at (run (listen 7 2 4) []) 14 ≡ None)
+    × (item_at (0x40 ∷ 0x00 ∷ 0x01 ∷ 0x00 ∷ 0x02 ∷ []) 0 ≡ None)
+    × (item_at (0x30 ∷ 0x00 ∷ 0x00 ∷ 0x01 ∷ 0x00 ∷ []) 0 ≡ None)
 unfolding item_of
 items = (refl, refl, refl, refl, refl, refl, refl, refl, refl)

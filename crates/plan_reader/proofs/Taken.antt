@@ -1,4 +1,5 @@
 -- The test of a plan tape says which tapes the reader takes: exactly those that the writer can make.
+use Rattle.refusals.specs.Refusals.{Accepted}
 use Prim.Native.Nat.{ℕ}
 use mathlib.Core.Path.{◌≡◌, refl, sym, ◌∙◌}
 use mathlib.Core.Logic.{◌↔◌}
@@ -8,7 +9,6 @@ use native.Mathlib.Omega.{arith}
 use Rattle.window.specs.declared.Kind.{Kind}
 use Rattle.window.specs.declared.Kind.TheVariants.{Round, Run}
 use Rattle.window.specs.Hours.{hours_from}
-use Rattle.refusals.specs.declared.Refusal.TheVariants.{Accepted}
 use Rattle.tape.specs.Words.{Bytes}
 use Rattle.table.specs.Tables.{setting_of, table, Plan, Valid}
 use Rattle.plan_tape.specs.Stated.{stated}

@@ -1,14 +1,14 @@
 -- Inner: The plain test for a tape that the writer can make, clause for clause: its form, R, and each LISTEN beside the others. proofs/Taken.antt has that it says the same.
-use Rattle.std.specs.Prelude.{ℕ, Bool, true, cond, not, ◌&&◌, ◌||◌, List, [], ◌∷◌, ltb, eqb, get_or}
+use Rattle.std.specs.Prelude.{ℕ, Bool, true, cond, not, ◌&&◌, ◌||◌, Option, Some, None, List, [], ◌∷◌, ltb, eqb, get_or, drop}
+use Rattle.std.specs.List.{list_all}
 use Rattle.basics.specs.Limits.{max_rows}
 use Rattle.window.specs.declared.Kind.{Kind}
 use Rattle.window.specs.Windows.{is_window, overlaps}
 use Rattle.refusals.specs.Refusals.{passes}
 use Rattle.table.specs.Checks.{ticks_refusal}
 use Rattle.tape.specs.Commands.{ROUND, RUN, RECEIVER, begins, stop_last, past}
-use Rattle.plan_reader.specs.declared.judged.Place.{Place}
-use Rattle.plan_reader.specs.declared.judged.Place.TheVariants.{At, Nowhere}
-use Rattle.plan_tape.specs.Stated.{Listen, Stated, after_head, after_part, stated}
+use Rattle.plan_reader.specs.declared.judged.Listens.{Listens}
+use Rattle.plan_tape.specs.Stated.{Listen, Stated, listens_in, after_head, after_part, stated}
 
 -- RECEIVER with this number stands first
 unfoldable pub is_receiver : ℕ → List ℕ → Bool
@@ -16,8 +16,8 @@ unfolding begins
 is_receiver number s = begins RECEIVER s && eqb (get_or s 1 0) number
 
 -- the place after it
-abbrev pub place_after : ℕ → List ℕ → ℕ → Place
-place_after number s at = cond (is_receiver number s) (At (past RECEIVER at)) Nowhere
+abbrev pub place_after : ℕ → List ℕ → ℕ → Option ℕ
+place_after number s at = cond (is_receiver number s) (Some (past RECEIVER at)) None
 
 -- "ROUND or RUN; RECEIVER 1; its LISTENs ..; RECEIVER 2; its LISTENs likewise; STOP", and nothing after it
 unfoldable pub is_formed : List ℕ → Bool
@@ -28,10 +28,9 @@ is_formed tape =
     && is_receiver 2 (after_part (after_head tape))
     && stop_last (after_part (after_part (after_head tape)))
 
--- the test holds of each LISTEN
-unfoldable pub all_of : (Listen → Bool) → List Listen → Bool
-all_of p [] = true
-all_of p (w ∷ ws) = p w && all_of p ws
+-- the LISTENs from the place of a walk on
+abbrev pub listens_left : Listens → List Listen
+listens_left l = listens_in (drop l.reader.at l.reader.tape.now)
 
 -- a row of a table, with a window that passes check 6
 abbrev pub is_listen : Kind → ℕ → Listen → Bool
@@ -46,15 +45,14 @@ is_before w w' = ltb w.start w'.start && not (overlaps w.start w.end w'.start w'
 
 -- the LISTENs of one receiver
 unfoldable pub is_part : Kind → ℕ → List Listen → Bool
-unfolding all_of overlaps
+unfolding overlaps
 is_part kind R [] = true
-is_part kind R (w ∷ ws) = is_listen kind R w && all_of (is_before w) ws && is_part kind R ws
+is_part kind R (w ∷ ws) = is_listen kind R w && list_all (is_before w) ws && is_part kind R ws
 
 -- no row under both receivers
 unfoldable pub are_other : List Listen → List Listen → Bool
-unfolding all_of
 are_other [] us = true
-are_other (w ∷ ws) us = all_of (is_other w.row) us && are_other ws us
+are_other (w ∷ ws) us = list_all (is_other w.row) us && are_other ws us
 
 -- R, which passes check 4, and the LISTENs of receivers 1 and 2
 unfoldable pub are_parts : Kind → ℕ → List Listen → List Listen → Bool

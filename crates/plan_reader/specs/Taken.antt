@@ -1,10 +1,10 @@
 -- Believed: Which tapes the plan tape reader takes (paper 02, request 1): "exactly the tapes the writer can write for some table and labels; for a run, hours 0 to R are supposed."
 -- Request 4: "plan tapes are still read with g of 0".
+use Rattle.refusals.specs.Refusals.{Accepted}
 use Rattle.std.specs.Prelude.{ℕ, ◌≡◌, List, take}
 use Rattle.window.specs.declared.Kind.{Kind}
 use Rattle.window.specs.declared.Kind.TheVariants.{Round, Run}
 use Rattle.window.specs.Hours.{hours_from}
-use Rattle.refusals.specs.declared.Refusal.TheVariants.{Accepted}
 use Rattle.table.specs.Tables.{Table}
 use Rattle.plan_tape.specs.Written.{written}
 

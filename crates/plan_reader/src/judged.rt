@@ -1,177 +1,121 @@
 // Whether a tape is one that the writer can make.
 ghost use Rattle.std.specs.Prelude.{◌≡◌, ◌↔◌, true, drop};
-ghost use Rattle.plan_tape.specs.Stated.{listen_of, listens_in, after_listens};
+ghost use Rattle.std.specs.Iterator.{YieldsFirstBy, item_count};
+ghost use Rattle.std.specs.List.{list_all};
+ghost use Rattle.plan_tape.specs.Stated.{after_listens};
+ghost use Rattle.plan_reader.specs.Items.{stated_listen};
 ghost use Rattle.plan_reader.specs.Taken.{WriterMakes};
-ghost use Rattle.plan_reader.specs.Judged.{place_after, all_of, is_other, is_before, is_listen, is_part, are_other, are_parts, is_plan_tape};
+ghost use Rattle.plan_reader.specs.Judged.{place_after, listens_left, is_other, is_before, is_listen, is_part, are_other, are_parts, is_plan_tape};
 
-use crate::{Item, item_at};
+use crate::{Head, Item, Listen, PlanReader};
 use basics::MAX_ROWS;
-use window::Kind;
 
-// A place of a tape, or none.
+// The LISTENs that stand from the reader's place on, one after the other.
 #[derive(Clone, Copy)]
-pub enum Place {
-    At(usize),
-    Nowhere,
+struct Listens<'a> {
+    reader: PlanReader<'a>,
+}
+
+impl<'a> Iterator for Listens<'a> {
+    type Item = Listen;
+
+    ghost next_gives = { YieldsFirstBy stated_listen listens_left };
+
+    ghost remaining = { item_count listens_left };
+
+    fn next(&mut self) -> Option<Listen> {
+        let Some(Item::Listen { listen, next }) = self.reader.next() else {
+            return None;
+        };
+        self.reader.at = next;
+        Some(listen)
+    }
 }
 
 // The place after a RECEIVER with this number.
-fn after_receiver(tape: &[u8], at: usize, number: u8) -> Place
-    ensures { result ≡ place_after number (drop at tape.now) at }
+fn after_receiver(reader: PlanReader, number: u8) -> Option<usize>
+    ensures { result ≡ place_after number (drop reader.entry.at reader.entry.tape.now) reader.entry.at }
 {
-    let item = item_at(tape, at);
-    if let Item::Receiver {
-        number: stands,
-        next,
-    } = item
-    {
-        if stands == number {
-            return Place::At(next);
-        }
-    }
-    Place::Nowhere
-}
-
-// The place after the LISTENs that stand from a place on.
-fn after_listens(tape: &[u8], from: usize) -> usize
-    ensures { drop result tape.now ≡ after_listens (drop from tape.now) }
-{
-    let mut at = from;
-    loop {
-        let item = item_at(tape, at);
-        let Item::Listen { next, .. } = item else {
-            return at;
-        };
-        at = next;
+    match reader.next() {
+        Some(
+            Item::Receiver {
+                number: stands,
+                next,
+            },
+        ) if stands == number => Some(next),
+        _ => None,
     }
 }
 
-// Whether no LISTEN from a place on is of the row.
-fn is_row_free(tape: &[u8], from: usize, row: u8) -> bool
-    ensures { result ≡ all_of (is_other row) (listens_in (drop from tape.now)) }
+// The place after the LISTENs that stand from the reader's place on.
+fn after_listens(mut reader: PlanReader) -> usize
+    ensures { drop result reader.entry.tape.now ≡ after_listens (drop reader.entry.at reader.entry.tape.now) }
 {
-    let mut at = from;
-    loop {
-        let item = item_at(tape, at);
-        let Item::Listen {
-            row: other,
-            next,
-            ..
-        } = item
-        else {
-            return true;
-        };
-        if row == other {
-            return false;
-        }
-        at = next;
+    while let Some(Item::Listen { next, .. }) = reader.next() {
+        reader.at = next;
     }
+    reader.at
+}
+
+// Whether no LISTEN is of the row.
+fn is_row_free(mut listens: Listens, row: u8) -> bool
+    ensures { result ≡ list_all (is_other row) (listens_left listens.entry) }
+{
+    listens.all(|other| row != other.row)
 }
 
 // Whether a LISTEN can stand before another of the same receiver.
-fn is_before(row: u8, start: u16, end: u16, row2: u8, start2: u16, end2: u16) -> bool
-    ensures { result ≡ is_before (listen_of row start end) (listen_of row2 start2 end2) }
+fn is_before(listen: Listen, other: Listen) -> bool
+    ensures { result ≡ is_before (stated_listen listen) (stated_listen other) }
 {
-    if start2 <= start {
-        return false;
-    }
-    if window::overlap(start, end, start2, end2) {
-        return false;
-    }
-    row != row2
+    listen.window.start < other.window.start
+        && !listen.window.overlaps(other.window)
+        && listen.row != other.row
 }
 
-// Whether a LISTEN can stand before all from a place on.
-fn is_before_all(tape: &[u8], from: usize, row: u8, start: u16, end: u16) -> bool
-    ensures { result ≡ all_of (is_before (listen_of row start end)) (listens_in (drop from tape.now)) }
+// Whether a LISTEN can stand before all these.
+fn is_before_all(mut listens: Listens, listen: Listen) -> bool
+    ensures { result ≡ list_all (is_before (stated_listen listen)) (listens_left listens.entry) }
 {
-    let mut at = from;
-    loop {
-        let item = item_at(tape, at);
-        let Item::Listen {
-            row: row2,
-            start: start2,
-            end: end2,
-            next,
-        } = item
-        else {
-            return true;
-        };
-        if !is_before(row, start, end, row2, start2, end2) {
-            return false;
-        }
-        at = next;
-    }
+    listens.all(|other| is_before(listen, other))
 }
 
 // Whether a LISTEN is of a row of a table, with a window that passes check 6.
-fn is_listen(kind: Kind, ticks: u16, row: u8, start: u16, end: u16) -> bool
-    ensures { result ≡ is_listen kind ticks (listen_of row start end) }
+fn is_listen(head: Head, listen: Listen) -> bool
+    ensures { result ≡ is_listen head.kind head.ticks (stated_listen listen) }
 {
-    if MAX_ROWS <= row as usize {
-        return false;
-    }
-    window::is_window(kind, ticks, start, end)
+    (listen.row as usize) < MAX_ROWS && listen.window.is_proper(head.kind, head.ticks)
 }
 
-// Whether the LISTENs from a place on can be those of one receiver.
-fn is_part(tape: &[u8], from: usize, kind: Kind, ticks: u16) -> bool
-    ensures { result ≡ is_part kind ticks (listens_in (drop from tape.now)) }
+// Whether the LISTENs can be those of one receiver.
+#[tactic(auto, unfolding(crate::specs::Judged::is_part))]
+fn is_part(mut listens: Listens, head: Head) -> bool
+    ensures { result ≡ is_part head.kind head.ticks (listens_left listens.entry) }
 {
-    let mut at = from;
-    loop {
-        let item = item_at(tape, at);
-        let Item::Listen {
-            row,
-            start,
-            end,
-            next,
-        } = item
-        else {
-            return true;
-        };
-        if !is_listen(kind, ticks, row, start, end) {
+    while let Some(listen) = listens.next() {
+        if !(is_listen(head, listen) && is_before_all(listens, listen)) {
             return false;
         }
-        if !is_before_all(tape, next, row, start, end) {
-            return false;
-        }
-        at = next;
     }
+    true
 }
 
-// Whether the LISTENs from one place on and those from another have no row in common.
-fn are_other_rows(tape: &[u8], from: usize, others: usize) -> bool
-    ensures { result ≡ are_other (listens_in (drop from tape.now)) (listens_in (drop others tape.now)) }
+// Whether two receivers' LISTENs have no row in common.
+fn are_other_rows(mut listens: Listens, others: Listens) -> bool
+    ensures { result ≡ are_other (listens_left listens.entry) (listens_left others.entry) }
 {
-    let mut at = from;
-    loop {
-        let item = item_at(tape, at);
-        let Item::Listen { row, next, .. } = item else {
-            return true;
-        };
-        if !is_row_free(tape, others, row) {
-            return false;
-        }
-        at = next;
-    }
+    listens.all(|listen| is_row_free(others, listen.row))
 }
 
-// Whether the LISTENs from two places on can be those of receivers 1 and 2.
-fn are_parts(tape: &[u8], first: usize, second: usize, kind: Kind, ticks: u16) -> bool
-    ensures { result ≡ are_parts kind ticks (listens_in (drop first tape.now)) (listens_in (drop second tape.now)) }
+// Whether LISTENs can be those of receivers 1 and 2.
+#[tactic(auto, unfolding(crate::specs::Judged::are_parts))]
+fn are_parts(head: Head, first: Listens, second: Listens) -> bool
+    ensures { result ≡ are_parts head.kind head.ticks (listens_left first.entry) (listens_left second.entry) }
 {
-    let refusal = table::checks::check_ticks(ticks);
-    if refusals::number(refusal) != 0 {
-        return false;
-    }
-    if !is_part(tape, first, kind, ticks) {
-        return false;
-    }
-    if !is_part(tape, second, kind, ticks) {
-        return false;
-    }
-    are_other_rows(tape, first, second)
+    table::checks::check_ticks(head.ticks).is_ok()
+        && is_part(first, head)
+        && is_part(second, head)
+        && are_other_rows(first, second)
 }
 
 // Whether the writer can make the tape, for some table and labels.
@@ -179,22 +123,28 @@ pub fn is_plan_tape(tape: &[u8]) -> bool
     ensures computed { result ≡ is_plan_tape tape.now }
     ensures meaning { (result ≡ true) ↔ WriterMakes tape.now }
 {
-    let item = item_at(tape, 0);
-    let Item::Head { kind, ticks, next } = item else {
+    let reader = PlanReader { tape, at: 0 };
+    let Some(Item::Head { head, next }) = reader.next() else {
         return false;
     };
-    let place = after_receiver(tape, next, 1);
-    let Place::At(first) = place else {
+    let Some(first) = after_receiver(PlanReader { tape, at: next }, 1) else {
         return false;
     };
-    let middle = after_listens(tape, first);
-    let place2 = after_receiver(tape, middle, 2);
-    let Place::At(second) = place2 else {
+    let middle = after_listens(PlanReader { tape, at: first });
+    let Some(second) = after_receiver(PlanReader { tape, at: middle }, 2) else {
         return false;
     };
-    let stop = after_listens(tape, second);
+    let stop = after_listens(PlanReader { tape, at: second });
     if !tape::is_stop_at(tape, stop) {
         return false;
     }
-    are_parts(tape, first, second, kind, ticks)
+    are_parts(
+        head,
+        Listens {
+            reader: PlanReader { tape, at: first },
+        },
+        Listens {
+            reader: PlanReader { tape, at: second },
+        },
+    )
 }

@@ -8,7 +8,7 @@ ghost use Rattle.plan_tape.specs.Stated.{ticks_at};
 ghost use Rattle.plan_reader.specs.Items.{listen_at, receiver_at, head_at, item_at};
 
 use tape::{begins, past, word_at};
-use window::Kind;
+use window::{Kind, Window};
 
 pub mod judged;
 
@@ -19,111 +19,115 @@ pub struct PlanReader<'a> {
     pub at: usize,
 }
 
-// A command of a plan tape with its operands, and the place after it; or something else, or a command that is cut short.
-#[derive(Clone, Copy)]
+// "ROUND, RUN: R (16 bits)".
+#[derive(Clone, Copy, Debug, PartialEq, Eq)]
+pub struct Head {
+    pub kind: Kind,
+    pub ticks: u16,
+}
+
+// "LISTEN: row (8), start (16), end (16)".
+#[derive(Clone, Copy, Debug, PartialEq, Eq)]
+pub struct Listen {
+    pub row: u8,
+    pub window: Window,
+}
+
+// A command of a plan tape with its operands, and the place after it.
+#[derive(Clone, Copy, Debug, PartialEq, Eq)]
 pub enum Item {
-    Head {
-        kind: Kind,
-        ticks: u16,
-        next: usize,
-    },
-    Receiver {
-        number: u8,
-        next: usize,
-    },
-    Listen {
-        row: u8,
-        start: u16,
-        end: u16,
-        next: usize,
-    },
-    Stop {
-        next: usize,
-    },
-    Broken,
+    Head { head: Head, next: usize },
+    Receiver { number: u8, next: usize },
+    Listen { listen: Listen, next: usize },
+    Stop { next: usize },
 }
 
-// The LISTEN that stands at a place.
-fn listen_at(tape: &[u8], at: usize) -> Item
-    requires { begins LISTEN (drop at tape.now) ≡ true }
-    ensures { result ≡ listen_at (drop at tape.now) at }
-{
-    Item::Listen {
-        row: tape[at + 1],
-        start: word_at(tape, at + 2),
-        end: word_at(tape, at + 4),
-        next: past(tape, at, tape::LISTEN),
+impl<'a> PlanReader<'a> {
+    // A reader at the beginning of a tape.
+    pub fn new(tape: &'a [u8]) -> PlanReader<'a>
+        ensures { (result.tape ≡ tape.entry) × (result.at ≡ 0) }
+    {
+        PlanReader { tape, at: 0 }
     }
-}
 
-// The RECEIVER that stands at a place.
-fn receiver_at(tape: &[u8], at: usize) -> Item
-    requires { begins RECEIVER (drop at tape.now) ≡ true }
-    ensures { result ≡ receiver_at (drop at tape.now) at }
-{
-    Item::Receiver {
-        number: tape[at + 1],
-        next: past(tape, at, tape::RECEIVER),
+    // What stands at the reader's place; None is something else, or a command that is cut short.
+    #[tactic(auto, unfolding(crate::specs::Items::item_of))]
+    pub fn next(self) -> Option<Item>
+        ensures { result ≡ item_at self.entry.tape.now self.entry.at }
+    {
+        if begins(self.tape, self.at, tape::LISTEN) {
+            return Some(self.listen());
+        }
+        if begins(self.tape, self.at, tape::RECEIVER) {
+            return Some(self.receiver());
+        }
+        if begins(self.tape, self.at, tape::STOP) {
+            return Some(Item::Stop {
+                next: past(self.tape, self.at, tape::STOP),
+            });
+        }
+        if begins(self.tape, self.at, tape::ROUND) {
+            return Some(self.head(Kind::Round));
+        }
+        if begins(self.tape, self.at, tape::RUN) {
+            return Some(self.head(Kind::Run));
+        }
+        None
     }
-}
 
-// The ROUND or RUN that stands at a place.
-fn head_at(tape: &[u8], at: usize, kind: Kind) -> Item
-    requires { begins (kind_command kind) (drop at tape.now) ≡ true }
-    ensures { result ≡ head_at kind (drop at tape.now) at }
-{
-    Item::Head {
-        kind,
-        ticks: word_at(tape, at + 1),
-        next: past(tape, at, plan_tape::kind_command(kind)),
+    // The reader at another place of its tape: the one that an item gives as the next.
+    pub fn moved(self, at: usize) -> PlanReader<'a>
+        ensures { (result.tape ≡ self.entry.tape) × (result.at ≡ at) }
+    {
+        PlanReader {
+            tape: self.tape,
+            at,
+        }
     }
-}
 
-// What stands at a place of a tape.
-pub fn item_at(tape: &[u8], at: usize) -> Item
-    ensures { result ≡ item_at tape.now at }
-{
-    if begins(tape, at, tape::LISTEN) {
-        return listen_at(tape, at);
+    // The LISTEN that stands at the place.
+    #[tactic(auto, using(crate::proofs::Items::listen_whole))]
+    fn listen(self) -> Item
+        requires { begins LISTEN (drop self.at self.tape.now) ≡ true }
+        ensures { result ≡ listen_at (drop self.entry.at self.entry.tape.now) self.entry.at }
+    {
+        Item::Listen {
+            listen: Listen {
+                row: self.tape[self.at + 1],
+                window: Window {
+                    start: word_at(self.tape, self.at + 2),
+                    end: word_at(self.tape, self.at + 4),
+                },
+            },
+            next: past(self.tape, self.at, tape::LISTEN),
+        }
     }
-    if begins(tape, at, tape::RECEIVER) {
-        return receiver_at(tape, at);
-    }
-    if begins(tape, at, tape::STOP) {
-        return Item::Stop {
-            next: past(tape, at, tape::STOP),
-        };
-    }
-    if begins(tape, at, tape::ROUND) {
-        return head_at(tape, at, Kind::Round);
-    }
-    if begins(tape, at, tape::RUN) {
-        return head_at(tape, at, Kind::Run);
-    }
-    Item::Broken
-}
 
-// A reader at the beginning of a tape.
-pub fn new<'a>(tape: &'a [u8]) -> PlanReader<'a>
-    ensures { (result.tape ≡ tape.entry) × (result.at ≡ 0) }
-{
-    PlanReader { tape, at: 0 }
-}
+    // The RECEIVER that stands at the place.
+    #[tactic(auto, using(crate::proofs::Items::receiver_whole))]
+    fn receiver(self) -> Item
+        requires { begins RECEIVER (drop self.at self.tape.now) ≡ true }
+        ensures { result ≡ receiver_at (drop self.entry.at self.entry.tape.now) self.entry.at }
+    {
+        Item::Receiver {
+            number: self.tape[self.at + 1],
+            next: past(self.tape, self.at, tape::RECEIVER),
+        }
+    }
 
-// What stands at the reader's place.
-pub fn next<'a>(reader: PlanReader<'a>) -> Item
-    ensures { result ≡ item_at reader.entry.tape.now reader.entry.at }
-{
-    item_at(reader.tape, reader.at)
-}
-
-// The reader at another place of its tape: the one that an item gives as the next.
-pub fn moved<'a>(reader: PlanReader<'a>, at: usize) -> PlanReader<'a>
-    ensures { (result.tape ≡ reader.entry.tape) × (result.at ≡ at) }
-{
-    PlanReader {
-        tape: reader.tape,
-        at,
+    // The ROUND or RUN that stands at the place.
+    #[tactic(auto, using(crate::proofs::Items::head_whole))]
+    fn head(self, kind: Kind) -> Item
+        requires { begins (kind_command kind) (drop self.at self.tape.now) ≡ true }
+        ensures { result ≡ head_at kind (drop self.entry.at self.entry.tape.now) self.entry.at }
+    {
+        Item::Head {
+            head: Head {
+                kind,
+                ticks: word_at(self.tape, self.at + 1),
+            },
+            next: past(self.tape, self.at, plan_tape::kind_command(kind)),
+        }
     }
 }
 
@@ -131,9 +135,9 @@ pub fn moved<'a>(reader: PlanReader<'a>, at: usize) -> PlanReader<'a>
 pub fn ticks_of(tape: &[u8]) -> u16
     ensures { result ≡ ticks_at tape.now }
 {
-    let item = item_at(tape, 0);
-    let Item::Head { ticks, .. } = item else {
+    let reader = PlanReader { tape, at: 0 };
+    let Some(Item::Head { head, .. }) = reader.next() else {
         return 0;
     };
-    ticks
+    head.ticks
 }

@@ -9,9 +9,7 @@ use lib.Dec.{leb}
 use lib.ListN.{length}
 use Rattle.basics.specs.Lists.{Put}
 use Rattle.labels.specs.Labels.{heard}
-use Rattle.refusals.specs.declared.Refusal.{Refusal}
-use Rattle.refusals.specs.declared.Refusal.TheVariants.{Accepted, NotPlan, Buffer}
-use Rattle.refusals.specs.Refusals.{number_of, answered, asked, ◌then◌}
+use Rattle.refusals.specs.Refusals.{number_of, answered, asked, ◌then◌, Accepted, NotPlan, Buffer, Outcome}
 use Rattle.table.specs.Tables.{Table, row_at, Plan, Valid, is_plan}
 use Rattle.table.specs.Checks.{lists_refusal, table_looked}
 use Rattle.refusals.proofs.Refusals.{Passed, then_passed, asked_passed}
@@ -82,7 +80,7 @@ module _ (t : Table) (labels : List ℕ) where
   -- ---- the two kinds of answer
 
   module _ (before : List ℕ) where
-    pub written_refused : (r : Refusal) → r ≡ write_refusal t labels (length before) → (number_of r ≡ 0 → ⊥) → writing (answered r 0) before ≡ written t labels before
+    pub written_refused : (r : Outcome) → r ≡ write_refusal t labels (length before) → (number_of r ≡ 0 → ⊥) → writing (answered r 0) before ≡ written t labels before
     unfolding written
     written_refused r e n = rw (← e, ne_eqb (number_of r) 0 n) refl
 

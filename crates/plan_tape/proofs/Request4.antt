@@ -4,8 +4,7 @@ use mathlib.Core.Path.{◌≡◌, refl, sym}
 use mathlib.Core.List.{List}
 use native.Mathlib.Omega.{arith}
 use Rattle.window.specs.Gaps.{max_gap}
-use Rattle.refusals.specs.declared.Refusal.TheVariants.{Gap}
-use Rattle.refusals.specs.Refusals.{answered}
+use Rattle.refusals.specs.Refusals.{answered, Gap}
 use Rattle.refusals.proofs.Refusals.{Passed, then_first, then_next}
 use Rattle.table.specs.Tables.{Table}
 use Rattle.table.specs.Checks.{lists_refusal, ticks_refusal, hours_refusal}

@@ -12,8 +12,7 @@ use lib.ListN.{length, take, drop, get_or-eq_default}
 use lib.Seq.{take-append_seam}
 use Rattle.basics.specs.Lists.{at, front}
 use Rattle.window.specs.declared.Kind.{Kind}
-use Rattle.refusals.specs.declared.Refusal.TheVariants.{Accepted}
-use Rattle.refusals.specs.Refusals.{number_of, answered}
+use Rattle.refusals.specs.Refusals.{number_of, answered, Accepted}
 use Rattle.table.specs.Tables.{Table, Plan}
 use Rattle.plan_tape.specs.PlanTapes.{plan_tape}
 use Rattle.plan_tape.specs.Stated.{Listen, Stated, stated}

@@ -6,9 +6,7 @@ use lib.ListN.{replicate}
 use Rattle.window.specs.Rows.{row}
 use Rattle.window.specs.declared.Row.{Row}
 use Rattle.window.specs.declared.Kind.TheVariants.{Round, Run}
-use Rattle.refusals.specs.declared.Refusal.{Refusal}
-use Rattle.refusals.specs.declared.Refusal.TheVariants.{Accepted, Lists, Rows, Ticks, Hours, Gap, Window, Mark, NotPlan, Buffer}
-use Rattle.refusals.specs.Refusals.{answered}
+use Rattle.refusals.specs.Refusals.{answered, Accepted, Lists, Rows, Ticks, Hours, Gap, Window, Mark, NotPlan, Buffer, Outcome}
 use Rattle.window.specs.Hours.{hours_from, no_hours}
 use Rattle.table.specs.Tables.{setting_of, Table, table, table_of}
 use Rattle.plan_tape.specs.PlanTapes.{plan_tape}
@@ -43,7 +41,7 @@ unfolding plan_tape
 sample = refl
 
 -- a call that finds nines in a buffer of so many bytes
-abbrev refused : Refusal → ℕ → Written
+abbrev refused : Outcome → ℕ → Written
 refused r bytes = writing (answered r 0) (replicate bytes 9)
 
 -- the tape in a buffer of 28 bytes and of 26; "A buffer of 25 gives 10"; "labels of P2 with a 3 in them (9)", before the buffer of 25 bytes gives 10

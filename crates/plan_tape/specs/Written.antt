@@ -2,10 +2,7 @@
 use Rattle.std.specs.Prelude.{ℕ, ◌+◌, ◌*◌, ◌≤◌, ◌<◌, ◌≡◌, ◌≢◌, ◌↔◌, cond, List, ◌++◌, leb, length, drop}
 use Rattle.basics.specs.Lists.{at, front}
 use Rattle.labels.specs.Labels.{heard}
-use Rattle.refusals.specs.declared.Refusal.{Refusal}
-use Rattle.refusals.specs.declared.Refusal.TheVariants.{Accepted, NotPlan, Buffer}
-use Rattle.refusals.specs.declared.Answer.{Answer}
-use Rattle.refusals.specs.Refusals.{answered, asked, passes, ◌then◌}
+use Rattle.refusals.specs.Refusals.{answered, asked, passes, ◌then◌, Accepted, NotPlan, Buffer, Answer, Outcome}
 use Rattle.table.specs.Tables.{Table, Plan, is_plan}
 use Rattle.table.specs.Checks.{lengths_refusal, lists_refusal, table_looked}
 use Rattle.plan_tape.specs.PlanTapes.{plan_tape}
@@ -16,12 +13,12 @@ unfolding plan_tape
 tape_of t labels = plan_tape t.setting.kind t.setting.ticks t.starts t.ends labels
 
 -- "Writer's order: 1, 2, 4, 5, rows for 6 and 7", the checks before 9, with 14 "looked at after 5" (request 4 of paper 02)
-unfoldable pub labelled : Table → List ℕ → Refusal
+unfoldable pub labelled : Table → List ℕ → Outcome
 unfolding lengths_refusal table_looked
 labelled t labels = lists_refusal t labels then (table_looked t).refusal
 
 -- "Writer's order: 1, 2, 4, 5, rows for 6 and 7, 9, 10." with 14 "looked at after 5"; "9: labels offered to the writer are not a plan." "10: plan tape buffer shorter than the tape."
-unfoldable pub write_refusal : Table → List ℕ → ℕ → Refusal
+unfoldable pub write_refusal : Table → List ℕ → ℕ → Outcome
 unfolding lengths_refusal table_looked is_plan tape_of
 write_refusal t labels buffer =
     lists_refusal t labels

@@ -1,6 +1,6 @@
 // What the trial of the plan tape writer works with: calls with plans made from a seed, the gap that each of them keeps, and a reader of plan tapes that shares nothing with the writer.
-// Product code makes part of the plans: `made` asks `window::overlap` whether a receiver is free for a window, and the writer judges by it too.
-// So a fault of `overlap` could hide a fault of the writer here. The plans of conformance are worked out by hand, and the brute force of planner_trial counts ticks.
+// Product code makes part of the plans: `made` asks `Window::overlaps` whether a receiver is free for a window, and the writer judges by it too.
+// So a fault of `overlaps` could hide a fault of the writer here. The plans of conformance are worked out by hand, and the brute force of planner_trial counts ticks.
 #![tactic(auto)]
 
 pub mod gaps;

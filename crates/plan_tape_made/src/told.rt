@@ -1,140 +1,102 @@
 // A reader of plan tapes that shares nothing with the writer.
+use window::Kind;
 
-fn word_of(high: u8, low: u8) -> u16 {
-    (high as u16) * 256 + (low as u16)
+// What a LISTEN tells of its row.
+#[derive(Clone, Copy, PartialEq, Eq)]
+struct Listen {
+    receiver: u8,
+    start: u16,
+    end: u16,
 }
 
-// A 16-bit operand; 0 past the end.
-fn word_at(tape: &[u8; 400], at: usize) -> u16 {
-    if 399 <= at {
-        return 0;
+// What a plan tape tells: for each row its LISTEN, if it is heard; and how long the tape is.
+#[derive(Clone, Copy)]
+pub struct Told {
+    rows: [Option<Listen>; 64],
+    pub length: usize,
+}
+
+// Takes a LISTEN down, if it is of a row that is not yet heard.
+fn take_listen(rows: &mut [Option<Listen>; 64], row: u8, listen: Listen) -> Option<()> {
+    let place = rows.get_mut(usize::from(row))?;
+    if place.is_some() {
+        return None;
     }
-    word_of(tape[at], tape[at + 1])
+    *place = Some(listen);
+    Some(())
 }
 
-// A row number; 0 past the end.
-fn row_at(tape: &[u8; 400], at: usize) -> usize {
-    if 400 <= at {
-        return 0;
-    }
-    index(tape[at])
-}
-
-fn wide(byte: u8) -> u16 {
-    byte as u16
-}
-
-fn index(byte: u8) -> usize {
-    byte as usize
-}
-
-// The tick after a start.
-fn after(start: u16) -> u32 {
-    (start as u32) + 1
-}
-
-// Takes a LISTEN down, if it is of a row that is not yet heard and starts late enough.
-fn take_listen(
-    tape: &[u8; 400],
-    at: usize,
-    receiver: u16,
-    least: u32,
-    told: &mut [u16; 192],
-) -> bool {
-    if 394 <= at {
-        return false;
-    }
-    let row = row_at(tape, at + 1);
-    let start = word_at(tape, at + 2);
-    if 64 <= row {
-        return false;
-    }
-    let place = row * 3;
-    if told[place] != 0 {
-        return false;
-    }
-    if after(start) <= least {
-        return false;
-    }
-    told[place] = receiver;
-    told[place + 1] = start;
-    told[place + 2] = word_at(tape, at + 4);
-    true
-}
-
-// Takes a receiver's LISTENs down, which must rise by start, and returns the place after them; 0 on a fault.
-fn take_listens(tape: &[u8; 400], from: usize, receiver: u16, told: &mut [u16; 192]) -> usize {
-    let mut at = from;
-    let mut least: u32 = 0;
-    while at < 394 {
-        if tape[at] != 0x30 {
-            return at;
+// Takes a receiver's LISTENs down, which must rise by start, and returns what comes after them; None on a fault.
+fn take_listens<'a>(
+    tape: &'a [u8],
+    receiver: u8,
+    rows: &mut [Option<Listen>; 64],
+) -> Option<&'a [u8]> {
+    let mut rest = tape;
+    let mut last = None;
+    while let [0x30, row, start1, start2, end1, end2, after @ ..] = rest {
+        let listen = Listen {
+            receiver,
+            start: u16::from_be_bytes([*start1, *start2]),
+            end: u16::from_be_bytes([*end1, *end2]),
+        };
+        if last >= Some(listen.start) {
+            return None;
         }
-        if !take_listen(tape, at, receiver, least, told) {
-            return 0;
-        }
-        least = after(word_at(tape, at + 2));
-        at += 6;
+        take_listen(rows, *row, listen)?;
+        last = Some(listen.start);
+        rest = after;
     }
-    0
+    Some(rest)
 }
 
-// Takes RECEIVER with its number and LISTENs down, and returns the place after them; 0 on a fault.
-fn take_receiver(tape: &[u8; 400], at: usize, receiver: u16, told: &mut [u16; 192]) -> usize {
-    if at == 0 {
-        return 0;
+// Takes RECEIVER with its number and LISTENs down, and returns what comes after them; None on a fault.
+fn take_receiver<'a>(
+    tape: &'a [u8],
+    receiver: u8,
+    rows: &mut [Option<Listen>; 64],
+) -> Option<&'a [u8]> {
+    match tape {
+        [0x20, number, after @ ..] if *number == receiver => take_listens(after, receiver, rows),
+        _ => None,
     }
-    if 392 <= at {
-        return 0;
-    }
-    if tape[at] != 0x20 {
-        return 0;
-    }
-    if wide(tape[at + 1]) != receiver {
-        return 0;
-    }
-    take_listens(tape, at + 2, receiver, told)
 }
 
 // Whether the tape begins with this command and R.
-pub fn has_head(tape: &[u8; 400], run: bool, ticks: u16) -> bool {
-    let command: u8 = if run { 0x11 } else { 0x10 };
-    if tape[0] != command {
-        return false;
-    }
-    word_at(tape, 1) == ticks
+pub fn has_head(tape: &[u8], kind: Kind, ticks: u16) -> bool {
+    let command = match kind {
+        Kind::Round => 0x10,
+        Kind::Run => 0x11,
+    };
+    let [high, low] = ticks.to_be_bytes();
+    tape.starts_with(&[command, high, low])
 }
 
-// Takes a plan tape down, for each row its label, start and end, and returns the tape's length; 0 if it is no plan tape.
-pub fn take_plan(tape: &[u8; 400], told: &mut [u16; 192]) -> usize {
-    let second = take_receiver(tape, 3, 1, told);
-    let stop = take_receiver(tape, second, 2, told);
-    if stop == 0 {
-        return 0;
+// Takes a plan tape down; None if it is no plan tape.
+pub fn take_plan(tape: &[u8]) -> Option<Told> {
+    let mut rows = [None; 64];
+    let first = tape.get(3..)?;
+    let second = take_receiver(first, 1, &mut rows)?;
+    match take_receiver(second, 2, &mut rows)? {
+        [0x7F, after @ ..] => Some(Told {
+            rows,
+            length: tape.len().saturating_sub(after.len()),
+        }),
+        _ => None,
     }
-    if 399 < stop {
-        return 0;
-    }
-    if tape[stop] != 0x7F {
-        return 0;
-    }
-    stop + 1
 }
 
-// Whether a row is told with this label and, where it is heard, this window.
-pub fn is_row(told: &[u16; 192], row: usize, label: u8, start: u16, end: u16) -> bool {
-    if 64 <= row {
-        return label == 0;
+impl Told {
+    // Whether a row is told with this label and, where it is heard, this window.
+    pub fn is_row(&self, row: usize, label: u8, start: u16, end: u16) -> bool {
+        let expected = match label {
+            0 => None,
+            _ => Some(Listen {
+                receiver: label,
+                start,
+                end,
+            }),
+        };
+        self.rows.get(row).copied().flatten() == expected
     }
-    let place = row * 3;
-    if told[place] != wide(label) {
-        return false;
-    }
-    if label == 0 {
-        return true;
-    }
-    if told[place + 1] != start {
-        return false;
-    }
-    told[place + 2] == end
 }

@@ -8,29 +8,33 @@ use native.Mathlib.Omega.{arith}
 use lib.Dec.{eqb}
 use lib.ListN.{length, drop, replicate}
 use Rattle.line.specs.Cells.{core_bytes}
+use Rattle.refusals.specs.Refusals.{number_of, answered, passes, Space, Answer, Outcome}
 use Rattle.refusals.specs.declared.Refusal.{Refusal}
-use Rattle.refusals.specs.declared.Refusal.TheVariants.{Space}
-use Rattle.refusals.specs.declared.Answer.{Answer}
-use Rattle.refusals.specs.Refusals.{number_of, answered, passes}
-use Rattle.refusals.proofs.Refusals.{Passed}
+use Rattle.refusals.specs.Numbers.{number}
+use Rattle.refusals.proofs.Refusals.{Passed, number_within, refused_first}
+use Rattle.std.specs.Prelude.{Ok, Err}
 use Rattle.table.specs.Tables.{Table}
 use Rattle.table.specs.Checks.{lists_refusal, table_looked}
 use Rattle.table.specs.Planned.{space_bytes, checked, best_plan, Planned, answering, given, planned, space_after, called, plan_call, Demand3}
 use Rattle.best_plan.specs.Rows.{Checked}
 use Rattle.best_plan.proofs.Clearing.{space_cleared}
 use Rattle.table.proofs.Checked.{checked_8, checked_valid}
-use Rattle.table.proofs.Calls.{space_kept, lists_first, space_next, rest_next}
+use Rattle.table.proofs.Calls.{space_kept, space_next, rest_next}
 use Rattle.table.proofs.Rivals.{planned_passed, planned_refused, demand_3}
+
+-- a check that gives no error passes
+pub passed : {a r : Outcome} {u : Unit {0}} → r ≡ a → r ≡ Ok u → Passed a
+passed h k = rw (← h, k) refl
 
 -- ---- a refusal
 
 module _ (t : Table) (before space : List ℕ) where
-  abbrev lists : Refusal
+  abbrev lists : Outcome
   lists = lists_refusal t before
 
-  pub lists_refuses : (number_of lists ≡ 0 → ⊥) → lists ≡ checked t before (length space)
+  pub lists_refuse : {r : Outcome} {e : Refusal} → r ≡ lists → r ≡ Err e → Err e ≡ checked t before (length space)
   unfolding checked
-  lists_refuses = lists_first lists (table_looked t).refusal (length space)
+  lists_refuse h k = refused_first h k _
 
   pub space_refuses : Passed lists → length space < space_bytes → Space ≡ checked t before (length space)
   unfolding checked
@@ -55,12 +59,13 @@ module _ (t : Table) (before space : List ℕ) where
       )
 
   -- what a refused call promises
-  pub refused_said : (r : Refusal) (a : Answer) → a ≡ answered r 0 → r ≡ checked t before (length space) → (number_of r ≡ 0 → ⊥) → Promised a before space
-  refused_said r a e q n =
+  pub refused_said : {e : Refusal} → Err e ≡ checked t before (length space) → Promised (answered (Err e) 0) before space
+  refused_said {e} q =
+      let n : number e ≡ 0 → ⊥ = λ z. absurd (omega (arith, (number_within e).0)) in
       let m : number_of (checked t before (length space)) ≡ 0 → ⊥ = λ z. n (ap number_of q ∙ z) in
-      promised a before space
-      (ap (λ x. answering x before) (e ∙ ap (λ x. answered x 0) q) ∙ sym (planned_refused t before (length space) m))
-      (rw e (space_kept r space n (rw q (checked_8 t before (length space)))))
+      promised (answered (Err e) 0) before space
+      (ap (λ x. answering (answered x 0) before) q ∙ sym (planned_refused t before (length space) m))
+      (space_kept (Err e) space n (rw q (checked_8 t before (length space))))
 
   -- ---- an answer
 

@@ -1,7 +1,7 @@
 // In how many rounds it decides the answer that the window of a row that sends all day covers every tick (request 3 of paper 02):
 // what the brute force finds is another answer where it covers fewer.
 use crate::drawn::Table;
-use crate::searched::{brute_kind_of, clashes, found_with};
+use crate::searched::{clashes, day_of, found_with, rows_of};
 use brute_force::plans::{Found, changed};
 use brute_force::windows;
 use trial_report::more;
@@ -51,7 +51,7 @@ fn sets_of(t: Table, taken: Taken) -> [u64; 8] {
     let ticks = t.ticks;
     let starts = t.starts;
     let ends = t.ends;
-    let mut sets = windows::window_sets(brute_kind_of(t.run), ticks, &starts, &ends);
+    let mut sets = day_of(t, t.run, t.gap).sets_of(&rows_of(t));
     for i in 0..8 {
         sets[i] = set_of(ticks, starts[i], ends[i], sets[i], taken);
     }

@@ -4,10 +4,10 @@ use crate::decided::Decided;
 use crate::drawn::Table;
 use crate::gap::Gaps;
 use crate::offered::Offered;
-use crate::searched::{found, kind_of, pairs};
+use crate::searched::found;
 use crate::{all_day, decided, drawn, gap, offered};
 use brute_force::plans::{Found, changed};
-use trial_calls::{LENT_BYTES, first_bytes, first_words, is_planned};
+use trial_calls::{LENT_BYTES, first, is_planned};
 use trial_report::more;
 
 pub const TABLES: u32 = 24000;
@@ -33,41 +33,28 @@ pub struct Tally {
 
 // The number of the answer: refusal 8 if there is no plan.
 fn number(found: Found) -> u8 {
-    if found.answer == 0 { 8 } else { 0 }
+    if found.plan.is_none() { 8 } else { 0 }
 }
 
 // How many labels the answer has.
 fn labelled(found: Found, rows: usize) -> usize {
-    if found.answer == 0 { 0 } else { rows }
+    if found.plan.is_none() { 0 } else { rows }
 }
 
 // The planner's answer, whole, is what the brute force finds: from as many bytes of working space as it needs and from more.
 fn is_found(t: Table, found: Found) -> bool {
-    if !is_found_in(t, found, 4608) {
-        return false;
-    }
-    is_found_in(t, found, LENT_BYTES)
+    is_found_in(t, found, 4608) && is_found_in(t, found, LENT_BYTES)
 }
 
 fn is_found_in(t: Table, found: Found, bytes: usize) -> bool {
-    let n = t.rows;
-    let starts = t.starts;
-    let ends = t.ends;
-    let marks = t.marks;
-    let hours = t.hours;
-    let labels = found.labels;
+    let labels = found.labels();
     is_planned(
-        kind_of(t.run),
-        t.ticks,
-        t.gap,
-        pairs(hours),
-        first_words(&starts, n),
-        first_words(&ends, n),
-        first_bytes(&marks, n),
-        n,
+        t.setting(),
+        t.lent(),
+        t.rows,
         bytes,
         number(found),
-        first_bytes(&labels, labelled(found, n)),
+        first(&labels, labelled(found, t.rows)),
     )
 }
 
@@ -118,7 +105,7 @@ fn with_table(tally: Tally) -> Tally {
     let hours = t.hours;
     let ticks = t.ticks;
     let right = found(t, &marks, hours);
-    let labels = right.labels;
+    let labels = right.labels();
     let open = found(t, &marks, [0, ticks, 0, ticks]);
     let rounds = tally.rounds;
     let runs = tally.runs;
@@ -128,7 +115,7 @@ fn with_table(tally: Tally) -> Tally {
     let offered = tally.offered;
     let n = heard(t, &labels);
     Tally {
-        none: more(tally.none, right.answer == 0),
+        none: more(tally.none, right.plan.is_none()),
         hours: more(tally.hours, changed(right, open)),
         crossing: more(tally.crossing, 1 < n.crossing),
         all_day: more(tally.all_day, 0 < n.all_day),

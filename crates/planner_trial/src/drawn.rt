@@ -1,5 +1,9 @@
 // Small tables drawn from a pseudo-random sequence: short days, so that much overlaps, touches and is equal.
+use crate::searched::pairs;
 use brute_force::random;
+use table::{Rows, Setting};
+use trial_calls::first;
+use window::Kind;
 
 // A run or a round; hours are p1, q1, p2, q2. `list` is the number of a label list (`brute_force::plans`), which is offered to the plan tape writer.
 #[derive(Clone, Copy)]
@@ -15,6 +19,26 @@ pub struct Table {
     pub list: u32,
     // the sequence's state after the table
     pub state: u64,
+}
+
+impl Table {
+    // As the product is lent it.
+    pub fn setting(&self) -> Setting {
+        Setting {
+            kind: if self.run { Kind::Run } else { Kind::Round },
+            ticks: self.ticks,
+            gap: self.gap,
+            hours: pairs(self.hours),
+        }
+    }
+
+    pub fn lent(&self) -> Rows<'_> {
+        Rows {
+            starts: first(&self.starts, self.rows),
+            ends: first(&self.ends, self.rows),
+            marks: first(&self.marks, self.rows),
+        }
+    }
 }
 
 // A number below the limit; 0 if the limit is 0.

@@ -39,10 +39,7 @@ pub fn without(t: Table) -> Found {
 
 // Whether there is no plan, and one without the gap.
 fn only_without(right: Found, other: Found) -> bool {
-    if right.answer == 0 {
-        return other.answer != 0;
-    }
-    false
+    right.plan.is_none() && other.plan.is_some()
 }
 
 // One table more, if it is a run or a round as asked.

@@ -15,11 +15,11 @@ use decided::Decided;
 use gap::Gaps;
 use offered::Offered;
 use std::io;
-use trial_report::{print, print_two, print_words};
+use trial_report::{print, print_two};
 
 fn print_by(rt: &impl Print, words: &[u8], rounds: u32, runs: u32) -> io::Result<()> {
-    print_words(rt, b"  decided by ")?;
-    print_words(rt, words)?;
+    rt.write_all(b"  decided by ")?;
+    rt.write_all(words)?;
     print_two(rt, b": rounds ", rounds, b", runs ", runs)
 }
 

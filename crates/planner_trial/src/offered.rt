@@ -1,10 +1,10 @@
 // Labels offered to the plan tape writer with no room for a tape: it gives 10 where the brute force says that they are a plan, and 9 where it says that they are not.
 use crate::drawn::Table;
 use crate::gap::without;
-use crate::searched::{clashes_by, kind_of, pairs, permissions};
+use crate::searched::{clashes_by, permissions};
 use brute_force::plans;
 use brute_force::plans::Found;
-use trial_calls::{first_bytes, first_words, is_taped};
+use trial_calls::{first, is_taped};
 use trial_report::more;
 
 // How many lists of labels were offered, how many of them are a plan, are one with a gap of 0 alone, are none with any gap, and how many answers differ.
@@ -29,21 +29,11 @@ pub fn nothing() -> Offered {
 
 // Whether the writer gives the number for the label list of a number.
 fn is_answered(t: Table, list: u32, number: u8) -> bool {
-    let n = t.rows;
-    let starts = t.starts;
-    let ends = t.ends;
-    let marks = t.marks;
-    let hours = t.hours;
-    let labels = plans::labels(n, list);
+    let labels = plans::labels(t.rows, list);
     is_taped(
-        kind_of(t.run),
-        t.ticks,
-        t.gap,
-        pairs(hours),
-        first_words(&starts, n),
-        first_words(&ends, n),
-        first_bytes(&marks, n),
-        first_bytes(&labels, n),
+        t.setting(),
+        t.lent(),
+        first(&labels, t.rows),
         0,
         number,
         &[],
@@ -53,7 +43,7 @@ fn is_answered(t: Table, list: u32, number: u8) -> bool {
 // Whether the label list of a number is a plan with a gap.
 fn is_plan(t: Table, list: u32, gap: u16) -> bool {
     let clashes = clashes_by(t, t.run, gap);
-    plans::judge(t.rows, list, &clashes, &permissions(t)) != 0
+    plans::judge(t.rows, list, &clashes, &permissions(t)).is_some()
 }
 
 // One list more.

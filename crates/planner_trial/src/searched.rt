@@ -1,13 +1,8 @@
 // What the brute force finds of a table that was drawn.
 use crate::drawn::Table;
-use brute_force::clashes::Gap;
 use brute_force::plans::Found;
+use brute_force::windows::{Day, Row};
 use brute_force::{clashes, plans, windows};
-use window::Kind;
-
-pub fn kind_of(run: bool) -> Kind {
-    if run { Kind::Run } else { Kind::Round }
-}
 
 pub fn brute_kind_of(run: bool) -> windows::Kind {
     if run {
@@ -21,48 +16,38 @@ pub fn pairs(hours: [u16; 4]) -> [[u16; 2]; 2] {
     [[hours[0], hours[1]], [hours[2], hours[3]]]
 }
 
+// The table's day, with a gap and counted as in a run or as in a round.
+pub fn day_of(t: Table, run: bool, gap: u16) -> Day {
+    Day {
+        kind: brute_kind_of(run),
+        ticks: t.ticks,
+        gap,
+    }
+}
+
+pub fn rows_of(t: Table) -> [Row; 8] {
+    windows::rows_of(&t.starts, &t.ends, &t.marks)
+}
+
 // What the brute force finds with marks and hours that need not be the table's.
 pub fn found(t: Table, marks: &[u8; 8], hours: [u16; 4]) -> Found {
-    let starts = t.starts;
-    let ends = t.ends;
-    brute_force::best_plan(
-        brute_kind_of(t.run),
-        t.ticks,
-        t.gap,
-        t.rows,
-        &starts,
-        &ends,
-        marks,
-        pairs(hours),
-    )
+    let rows = windows::rows_of(&t.starts, &t.ends, marks);
+    brute_force::best_plan(day_of(t, t.run, t.gap), t.rows, &rows, pairs(hours))
 }
 
 // The labels that the rows may have.
 pub fn permissions(t: Table) -> [u8; 8] {
-    let starts = t.starts;
-    let ends = t.ends;
-    let marks = t.marks;
-    let hours = t.hours;
-    windows::window_permissions(brute_kind_of(t.run), &starts, &ends, &marks, pairs(hours))
+    windows::permissions(brute_kind_of(t.run), &rows_of(t), pairs(t.hours))
 }
 
 // The rows that clash with each row where windows have these sets of ticks and the gap, which need not be the table's, is counted as in a run or as in a round.
 pub fn clashes(t: Table, sets: &[u64; 8], run: bool, gap: u16) -> [u8; 8] {
-    let starts = t.starts;
-    let ends = t.ends;
-    let g = Gap {
-        kind: brute_kind_of(run),
-        ticks: t.ticks,
-        gap,
-    };
-    clashes::with_gap(&clashes::overlaps(sets), g, &starts, &ends)
+    clashes::with_gap(&clashes::overlaps(sets), day_of(t, run, gap), &rows_of(t))
 }
 
 // The same with the sets of ticks of the table's windows.
 pub fn clashes_by(t: Table, run: bool, gap: u16) -> [u8; 8] {
-    let starts = t.starts;
-    let ends = t.ends;
-    let sets = windows::window_sets(brute_kind_of(t.run), t.ticks, &starts, &ends);
+    let sets = day_of(t, t.run, t.gap).sets_of(&rows_of(t));
     clashes(t, &sets, run, gap)
 }
 

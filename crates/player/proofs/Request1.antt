@@ -8,9 +8,7 @@ use native.Mathlib.Omega.{arith}
 use borrow.Author.Tests.{ltb-true, ltb-false}
 use lib.Dec.{ltb}
 use lib.ListN.{get_or}
-use Rattle.refusals.specs.declared.Refusal.{Refusal}
-use Rattle.refusals.specs.declared.Refusal.TheVariants.{Accepted, Tape, FirstTick}
-use Rattle.refusals.specs.Refusals.{number_of, asked, passes, ◌then◌}
+use Rattle.refusals.specs.Refusals.{number_of, asked, passes, ◌then◌, Accepted, Tape, FirstTick, Outcome}
 use Rattle.tape.specs.Commands.{ROUND, RUN, begins}
 use Rattle.tape.specs.Words.{joined, Bytes}
 use Rattle.tape.proofs.Joined.{joined_16}
@@ -19,8 +17,7 @@ use Rattle.plan_reader.specs.Judged.{is_plan_tape}
 use Rattle.plan_reader.specs.Taken.{WriterMakes}
 use Rattle.plan_reader.proofs.Parts.{plan_tape_iff}
 use Rattle.plan_reader.proofs.Taken.{taken_iff}
-use Rattle.player.specs.declared.Started.{Started}
-use Rattle.player.specs.Played.{player_at, resting, stepped, start_refusal, finished_tick, starting, started}
+use Rattle.player.specs.Played.{player_at, resting, stepped, start_refusal, finished_tick, Started, starting, started}
 use Rattle.player.specs.Follows.{Request1}
 use Rattle.player.proofs.Steps.{step_rests}
 use Rattle.player.proofs.Following.{follows}
@@ -39,7 +36,7 @@ finished_rests other h = sym (step_rests other (player_at finished_tick) refl (t
 
 module _ (tape : List ℕ) (h : Bytes tape) (first : ℕ) where
   -- a start whose checks give this refusal
-  yields : Refusal → Started
+  yields : Outcome → Started
   yields r = cond (passes r) (starting Accepted (player_at first)) (starting r (player_at finished_tick))
 
   pub request_1 : Request1 tape first (started tape first)

@@ -1,9 +1,9 @@
 -- Worked examples: paper 01's session tape played over the end of the day, a run to its end and beyond, a beacon that sends all day, and refused starts.
+use Rattle.refusals.specs.Refusals.{Accepted, Tape, FirstTick}
 use Prim.Native.Nat.{ℕ}
 use mathlib.Core.Path.{◌≡◌, refl}
 use mathlib.Core.Bool.{true, false}
 use mathlib.Core.List.{List, [], ◌∷◌, ◌++◌}
-use Rattle.refusals.specs.declared.Refusal.TheVariants.{Accepted, Tape, FirstTick}
 use Rattle.plan_tape.proofs.Sample.{session_tape}
 use Rattle.player.specs.declared.Receiver.{Receiver}
 use Rattle.player.specs.declared.Receiver.TheVariants.{Idle, Listening}

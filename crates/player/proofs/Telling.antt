@@ -1,12 +1,11 @@
 -- What a step tells of a receiver is what its LISTENs mean at the tick: of LISTENs that do not overlap at most one covers it, and that one is told.
 use Prim.Native.Nat.{ℕ, ◌<◌}
-use mathlib.Core.Path.{◌≡◌, sym, ap, ◌∙◌}
+use mathlib.Core.Path.{◌≡◌, sym, ◌∙◌}
 use mathlib.Core.Logic.{inl, inr}
 use mathlib.Core.Bool.{true, false≢true}
 use mathlib.Core.List.Memᴰ
 use mathlib.Core.List.{List, Memᴰ}
 use native.Mathlib.Decide.{ℕ_discrete}
-use native.Mathlib.Omega.{arith}
 use Rattle.window.specs.declared.Kind.{Kind}
 use Rattle.window.specs.Windows.{Covers}
 use Rattle.window.proofs.Meaning.{lies_iff}
@@ -18,18 +17,6 @@ use Rattle.player.specs.Told.{Tells, telling}
 use Rattle.player.proofs.Finding.{Lies, Found, found}
 
 -- ---- on the LISTENs of a receiver of a tape that the writer can make
-
-is_listening : Receiver → ℕ
-is_listening Idle = 0
-is_listening (Listening row end) = 1
-
-row_of : Receiver → ℕ
-row_of Idle = 0
-row_of (Listening row end) = row
-
-end_of : Receiver → ℕ
-end_of Idle = 0
-end_of (Listening row end) = end
 
 module _ (kind : Kind) (R tick : ℕ) (ws : List Listen) (part : Part kind R ws) (below : tick < R) where
   lies : (w : Listen) → Memᴰ w ws → Covers kind R w.start w.end tick → Lies kind R tick w ≡ true
@@ -47,11 +34,10 @@ module _ (kind : Kind) (R tick : ℕ) (ws : List Listen) (part : Part kind R ws)
       go (no d) = absurd (part.apart w v m n d (record { tick = tick; below = below; in_first = x; in_second = y }))
 
   tells_found : {told : Receiver} → Found kind R tick told Idle ws → Tells kind R tick ws told
-  unfolding is_listening row_of end_of
   tells_found (inl n) =
       record {
         listening = λ row end. (
-          λ e. absurd (omega (arith, ap is_listening (sym n.is ∙ e))),
+          λ e. absurd (cc (n.is, e)),
           λ x. absurd (false≢true (sym (n.no_one (listen_of row x.0 end) x.1) ∙ lies (listen_of row x.0 end) x.1 x.2)),
         );
         idle = (λ e w m x. false≢true (sym (n.no_one w m) ∙ lies w m x), λ _. n.is);
@@ -62,14 +48,15 @@ module _ (kind : Kind) (R tick : ℕ) (ws : List Listen) (part : Part kind R ws)
       record {
         listening = λ row end. (
           λ e.
-              let q = sym t.is ∙ e in
-              let same : w ≡ listen_of row w.start end = λ i. listen_of (ap row_of q i) w.start (ap end_of q i) in
-              (w.start, Memᴰ.cast (sym same) t.member, rw (ap end_of q) at x),
+              let row_is : w.row ≡ row = cc (t.is, e) in
+              let end_is : w.end ≡ end = cc (t.is, e) in
+              let same : w ≡ listen_of row w.start end = λ i. listen_of (row_is i) w.start (end_is i) in
+              (w.start, Memᴰ.cast (sym same) t.member, rw end_is at x),
           λ y.
               let q = at_most_one w (listen_of row y.0 end) t.member y.1 x y.2 in
               t.is ∙ (λ i. Listening (q i).row (q i).end),
         );
-        idle = (λ e. absurd (omega (arith, ap is_listening (sym t.is ∙ e))), λ none. absurd (none w t.member x));
+        idle = (λ e. absurd (cc (t.is, e)), λ none. absurd (none w t.member x));
       }
 
   pub telling_tells : Tells kind R tick ws (telling kind R tick Idle ws)

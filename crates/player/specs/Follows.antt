@@ -1,17 +1,16 @@
 -- Believed: What it means that a player follows its tape (paper 02, request 1): "From an accepted start, each step until finished must agree with the tape's windows at its tick, not only the first."
+use Rattle.refusals.specs.Refusals.{Accepted, Tape, FirstTick}
 use Rattle.std.specs.Prelude.{ℕ, zero, suc, ◌+◌, ◌%◌, ◌≤◌, ◌<◌, ◌≡◌, ◌↔◌, false, List}
 use Rattle.window.specs.declared.Kind.{Kind}
 use Rattle.window.specs.declared.Kind.TheVariants.{Round, Run}
-use Rattle.refusals.specs.declared.Refusal.TheVariants.{Accepted, Tape, FirstTick}
 use Rattle.tape.specs.Words.{Bytes}
 use Rattle.plan_tape.specs.Stated.{Stated, ticks_at, stated}
 use Rattle.plan_reader.specs.Taken.{WriterMakes}
 use Rattle.player.specs.declared.State.{State}
 use Rattle.player.specs.declared.Player.{Player}
-use Rattle.player.specs.declared.Started.{Started}
 use Rattle.player.specs.declared.Stepped.{Stepped}
 use Rattle.player.specs.Told.{Tells}
-use Rattle.player.specs.Played.{resting, stepped}
+use Rattle.player.specs.Played.{resting, stepped, Started}
 
 -- the player after n steps on the tape
 unfoldable pub after_steps : List ℕ → Player → ℕ → Player

@@ -1,16 +1,14 @@
 -- Believed: The right answers of the player's start and step, whole, on every tape, first tick and player.
-use Rattle.std.specs.Prelude.{ℕ, Bool, true, false, cond, List, ltb}
+use Rattle.std.specs.Prelude.{ℕ, Bool, true, false, cond, List, ltb, Result, Ok, Err}
 use Rattle.window.specs.Windows.{next}
 use Rattle.refusals.specs.declared.Refusal.{Refusal}
-use Rattle.refusals.specs.declared.Refusal.TheVariants.{Accepted, Tape, FirstTick}
-use Rattle.refusals.specs.Refusals.{asked, passes, ◌then◌}
+use Rattle.refusals.specs.Refusals.{asked, passes, ◌then◌, Accepted, Tape, FirstTick, Outcome}
 use Rattle.plan_tape.specs.Stated.{Stated, ticks_at, stated}
 use Rattle.plan_reader.specs.Judged.{is_plan_tape}
 use Rattle.player.specs.declared.Receiver.{Receiver}
 use Rattle.player.specs.declared.Receiver.TheVariants.{Idle}
 use Rattle.player.specs.declared.State.{State}
 use Rattle.player.specs.declared.Player.{Player}
-use Rattle.player.specs.declared.Started.{Started}
 use Rattle.player.specs.declared.Stepped.{Stepped}
 use Rattle.player.specs.Told.{telling}
 
@@ -48,7 +46,7 @@ stepped tape player = cond (ltb player.tick (stated tape).ticks) (moving (stated
 -- ---- a start
 
 -- "Turned away: 12, a tape no writer makes; then 13, a first tick not below R."
-unfoldable pub start_refusal : List ℕ → ℕ → Refusal
+unfoldable pub start_refusal : List ℕ → ℕ → Outcome
 unfolding is_plan_tape ticks_at
 start_refusal tape first = asked (is_plan_tape tape) Tape then asked (ltb first (ticks_at tape)) FirstTick
 
@@ -56,7 +54,12 @@ start_refusal tape first = asked (is_plan_tape tape) Tape then asked (ltb first 
 abbrev pub finished_tick : ℕ
 finished_tick = 65535
 
-abbrev pub starting : Refusal → Player → Started
+-- what a start gives: whether it is accepted, and a player
+pub record Started : Type 0 where
+  pub refusal : Outcome
+  pub player : Player
+
+abbrev pub starting : Outcome → Player → Started
 starting refusal player = record { refusal = refusal; player = player }
 
 unfoldable pub started : List ℕ → ℕ → Started
@@ -64,3 +67,8 @@ unfolding start_refusal
 started tape first =
     cond (passes (start_refusal tape first)) (starting Accepted (player_at first))
     (starting (start_refusal tape first) (player_at finished_tick))
+
+-- what a start gives, of a start that gives a player or a refusal: with the refusal the finished player
+abbrev pub started_of : Result Player Refusal → Started
+started_of (Ok player) = starting Accepted player
+started_of (Err r) = starting (Err r) (player_at finished_tick)

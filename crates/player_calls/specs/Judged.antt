@@ -3,7 +3,7 @@ use Rattle.std.specs.Prelude.{ℕ, ◌+◌, ◌*◌, Bool, cond, not, ◌&&◌, 
 use Rattle.refusals.specs.Refusals.{number_of}
 use Rattle.player.specs.declared.Receiver.{Receiver}
 use Rattle.player.specs.declared.Receiver.TheVariants.{Idle, Listening}
-use Rattle.player.specs.declared.Started.{Started}
+use Rattle.player.specs.Played.{Started}
 use Rattle.player.specs.declared.Stepped.{Stepped}
 
 -- what a receiver does, as a number: 0 if it is idle; if it listens, one more than the row, and then in the lower 16 bits the tick until which it does

@@ -1,8 +1,7 @@
 // Each way to break a plan tape, beside tapes that are just not broken.
 use crate::full::with_full;
-use crate::made::bytes;
 use crate::session::session;
-use crate::verdicts::{Groups, accepted, judged, none, refused};
+use crate::verdicts::{Groups, accepted, judged, refused};
 
 // ---- tapes with bytes changed
 
@@ -115,10 +114,8 @@ fn ends(g: Groups) -> Groups {
 fn prefixes(g: Groups) -> Groups {
     let tape = session();
     let mut groups = g;
-    let mut n: usize = 0;
-    while n < 26 {
-        groups = judged(groups, bytes(&tape, n), false);
-        n += 1;
+    for n in 0..26 {
+        groups = judged(groups, &tape[..n], false);
     }
     groups
 }
@@ -309,7 +306,7 @@ fn first_ticks(g: Groups) -> Groups {
 }
 
 pub fn all() -> Groups {
-    let mut g = no_commands(none());
+    let mut g = no_commands(Groups::default());
     g = other_commands(g);
     g = receivers(g);
     g = forms(g);

@@ -1,30 +1,8 @@
 // Tables drawn from a pseudo-random sequence, with labels given row by row: a row takes the receiver that it is offered to, if that is idle at all ticks of its window and
 // for the gap on both sides.
 // No product code has a part in them.
-ghost use Rattle.std.specs.Prelude.{◌≤◌};
-
-use crate::days;
-use crate::days::Time;
-use brute_force::random;
-
-fn at_most(n: usize, most: usize) -> usize
-    ensures { result ≤ most }
-{
-    if n <= most { n } else { most }
-}
-
-// A number below the limit; 0 if the limit is 0.
-pub fn below(state: u64, limit: u16) -> u16 {
-    if limit == 0 {
-        return 0;
-    }
-    random::below(state, limit)
-}
-
-// One of the `count` numbers from `low` on.
-pub fn from(state: u64, low: u16, count: u16) -> u16 {
-    std::num::wrapping_add_u16(low, below(state, count))
-}
+use crate::days::{Days, Time};
+use brute_force::random::{below_any, from, next};
 
 // How many ticks a window covers: up to `longest`, and in a round, for one row in eight, all R. The chance of that lies in the lower half of the state, which `below` leaves out.
 fn length(time: Time, longest: u16, state: u64) -> u16 {
@@ -39,14 +17,14 @@ fn length(time: Time, longest: u16, state: u64) -> u16 {
 
 // The end of a window of so many ticks: in a run cut off at R, in a round going on from R-1 to 0. After R ticks it is the start.
 fn end_of(time: Time, start: u16, length: u16) -> u16 {
-    let end = std::num::wrapping_add_u16(start, length);
+    let end = start.wrapping_add(length);
     if end < time.ticks {
         return end;
     }
     if time.run {
         return time.ticks;
     }
-    std::num::wrapping_sub_u16(end, time.ticks)
+    end.wrapping_sub(time.ticks)
 }
 
 // Draws windows of up to so many ticks, and windows that send all day; the result is the sequence's state after them.
@@ -58,14 +36,12 @@ pub fn draw_windows(
     state: u64,
 ) -> u64 {
     let mut s = state;
-    let mut i: usize = 0;
-    while i < 64 {
-        s = random::next(s);
-        let start = below(s, time.ticks);
-        s = random::next(s);
+    for i in 0..64 {
+        s = next(s);
+        let start = below_any(s, time.ticks);
+        s = next(s);
         starts[i] = start;
         ends[i] = end_of(time, start, length(time, longest, s));
-        i += 1;
     }
     s
 }
@@ -80,22 +56,11 @@ fn receiver_by(chance: u16) -> u8 {
 }
 
 // Marks a row's window, if it is offered to a receiver that is free for it: the label.
-fn label_of(
-    days: &mut [u32; 86400],
-    receiver: u8,
-    time: Time,
-    gap: u16,
-    row: u8,
-    start: u16,
-    end: u16,
-) -> u8 {
-    if receiver == 0 {
+fn label_of(days: &mut Days, receiver: u8, gap: u16, row: u8, start: u16, end: u16) -> u8 {
+    if receiver == 0 || !days.has_gap(receiver, gap, start, end) {
         return 0;
     }
-    if !days::has_gap(days, receiver, time, gap, start, end) {
-        return 0;
-    }
-    if days::take(days, receiver, time, row, start, end) {
+    if days.take(receiver, row, start, end) {
         return receiver;
     }
     0
@@ -106,20 +71,16 @@ pub fn draw_labels(
     starts: &[u16; 64],
     ends: &[u16; 64],
     rows: usize,
-    time: Time,
     gap: u16,
-    days: &mut [u32; 86400],
+    days: &mut Days,
     state: u64,
 ) -> [u8; 64] {
-    let n = at_most(rows, 64);
     let mut labels = [0u8; 64];
     let mut s = state;
-    let mut row: usize = 0;
-    while row < n {
-        s = random::next(s);
-        let receiver = receiver_by(below(s, 8));
-        labels[row] = label_of(days, receiver, time, gap, row as u8, starts[row], ends[row]);
-        row += 1;
+    for row in 0..rows.min(64) {
+        s = next(s);
+        let receiver = receiver_by(below_any(s, 8));
+        labels[row] = label_of(days, receiver, gap, row as u8, starts[row], ends[row]);
     }
     labels
 }

@@ -15,7 +15,6 @@ mod session;
 mod verdicts;
 
 use changed::Changed;
-use made::Which;
 use played::Tally;
 use std::io;
 use trial_report::{print, print_group};
@@ -69,13 +68,13 @@ fn print_played(rt: &impl Print) -> io::Result<()> {
         b"tables of 2 to 12 ticks, from each first tick: ",
         SMALL,
     )?;
-    print_tally(rt, made::tables(Which::Small, SMALL))?;
+    print_tally(rt, made::tables(SMALL, made::small))?;
     print(
         rt,
         b"tables of 2 to 12 ticks with a gap, from each first tick: ",
         WITH_GAP,
     )?;
-    print_tally(rt, made::tables(Which::WithGap, WITH_GAP))
+    print_tally(rt, made::tables(WITH_GAP, made::with_gap))
 }
 
 fn print_larger(rt: &impl Print) -> io::Result<()> {
@@ -84,28 +83,23 @@ fn print_larger(rt: &impl Print) -> io::Result<()> {
         b"tables of up to 1,000 ticks, from three first ticks: ",
         LARGER,
     )?;
-    print_tally(rt, made::tables(Which::Larger, LARGER))?;
+    print_tally(rt, made::tables(LARGER, made::larger))?;
     print(rt, b"tables of 43,200 ticks, from three first ticks: ", 2)?;
     print_tally(rt, made::longest_tables())
 }
 
 fn print_broken(rt: &impl Print) -> io::Result<()> {
     let groups = broken::all();
-    let starts = groups.starts;
-    let judged = groups.judged;
-    let finished = groups.finished;
-    print_group(rt, b"broken tapes and tapes just not broken", starts)?;
-    print_group(rt, b"the trial's own judge on these tapes", judged)?;
-    print_group(rt, b"steps after a refused start", finished)
+    print_group(rt, b"broken tapes and tapes just not broken", groups.starts)?;
+    print_group(rt, b"the trial's own judge on these tapes", groups.judged)?;
+    print_group(rt, b"steps after a refused start", groups.finished)
 }
 
 fn print_changed(rt: &impl Print, words: &[u8], changed: Changed) -> io::Result<()> {
-    let tapes = changed.tapes;
-    let steps = changed.steps;
-    print_group(rt, words, tapes)?;
+    print_group(rt, words, changed.tapes)?;
     print(rt, b"  that a writer can make ", changed.made)?;
-    print(rt, b"  steps on these ", steps.steps)?;
-    print(rt, b"  steps that differ ", steps.differ)
+    print(rt, b"  steps on these ", changed.steps.steps)?;
+    print(rt, b"  steps that differ ", changed.steps.differ)
 }
 
 fn main(rt: HostRuntime) -> io::Result<()> {

@@ -1,11 +1,11 @@
 // A tape played step by step beside what each receiver must do at each tick, and how many steps met what is easily got wrong.
-use crate::days::{Time, after, at_tick, until_of};
+use crate::days::{Days, Listening, Time};
 use player::{Player, Stepped};
-use player_calls::{is_accepted, is_step};
+use player_calls::{is_accepted, is_step, listening};
 use trial_report::more;
 
 // Starts and steps, how many of both differ, and of how many steps each fact holds.
-#[derive(Clone, Copy)]
+#[derive(Clone, Copy, Default)]
 pub struct Tally {
     pub starts: u32,
     pub steps: u32,
@@ -19,126 +19,115 @@ pub struct Tally {
     pub finished: u32,
 }
 
-pub fn no_steps() -> Tally {
-    Tally {
-        starts: 0,
-        steps: 0,
-        differ: 0,
-        idle: 0,
-        both: 0,
-        over: 0,
-        touching: 0,
-        all_day: 0,
-        own_end: 0,
-        finished: 0,
-    }
-}
-
 // What a receiver must do at a tick, at the one after it, and at the one until which it listens.
 #[derive(Clone, Copy)]
 struct Told {
-    now: u32,
-    next: u32,
-    end: u32,
+    tick: u16,
+    now: Option<Listening>,
+    next: Option<Listening>,
+    end: Option<Listening>,
 }
 
-fn told_at(days: &[u32; 86400], receiver: u8, time: Time, tick: u16) -> Told {
-    if time.ticks <= tick {
+fn told_at(days: &Days, receiver: u8, tick: u16) -> Told {
+    if days.time.ticks <= tick {
         return Told {
-            now: 0,
-            next: 0,
-            end: 0,
+            tick,
+            now: None,
+            next: None,
+            end: None,
         };
     }
-    let now = at_tick(days, receiver, tick);
+    let now = days.at(receiver, tick);
     Told {
+        tick,
         now,
-        next: at_tick(days, receiver, after(time, tick)),
-        end: at_tick(days, receiver, until_of(now)),
+        next: days.at(receiver, days.time.after(tick)),
+        end: match now {
+            Some(told) => days.at(receiver, told.until),
+            None => None,
+        },
     }
 }
 
-// It listens to a window that goes on from R-1 to tick 0, and this tick is before that.
-fn is_over(t: Told, tick: u16) -> bool {
-    if t.now == 0 {
-        return false;
+impl Told {
+    // As a number, for `player_calls`.
+    fn number(self) -> u32 {
+        match self.now {
+            Some(told) => listening(told.row, told.until),
+            None => 0,
+        }
     }
-    if until_of(t.now) == 0 {
-        return false;
-    }
-    until_of(t.now) <= tick
-}
 
-// Its window ends at the next tick, and another begins there.
-fn is_touching(t: Told) -> bool {
-    if t.now == 0 {
-        return false;
+    // It listens to a window that goes on from R-1 to tick 0, and this tick is before that.
+    fn is_over(self) -> bool {
+        match self.now {
+            Some(told) => told.until != 0 && told.until <= self.tick,
+            None => false,
+        }
     }
-    if t.next == 0 {
-        return false;
+
+    // Its window ends at the next tick, and another begins there.
+    fn is_touching(self) -> bool {
+        self.now.is_some() && self.next.is_some() && self.now != self.next
     }
-    t.now != t.next
-}
 
-// It listens to a window that sends all day: it does so at that window's end too.
-fn is_all_day(t: Told) -> bool {
-    if t.now == 0 {
-        return false;
+    // It listens to a window that sends all day: it does so at that window's end too.
+    fn is_all_day(self) -> bool {
+        self.now.is_some() && self.now == self.end
     }
-    t.now == t.end
-}
 
-// This tick is the end of the window to which it listens.
-fn is_own_end(t: Told, tick: u16) -> bool {
-    if t.now == 0 {
-        return false;
+    // This tick is the end of the window to which it listens.
+    fn is_own_end(self) -> bool {
+        match self.now {
+            Some(told) => told.until == self.tick,
+            None => false,
+        }
     }
-    until_of(t.now) == tick
-}
-
-fn either(a: bool, b: bool) -> bool {
-    if a { true } else { b }
-}
-
-fn both(a: bool, b: bool) -> bool {
-    if a { b } else { false }
 }
 
 // Where the player stands after a step: "after tick R-1 a run is finished", and then nothing changes.
 fn moved(time: Time, tick: u16) -> u16 {
     if time.ticks <= tick {
-        return tick;
-    }
-    after(time, tick)
-}
-
-// One step more, of a player at this tick.
-fn with_step(tally: Tally, time: Time, tick: u16, stepped: Stepped, t1: Told, t2: Told) -> Tally {
-    let finished = time.ticks <= tick;
-    let right = is_step(stepped, finished, t1.now, t2.now, moved(time, tick));
-    let idle = both(!finished, either(t1.now == 0, t2.now == 0));
-    let over = either(is_over(t1, tick), is_over(t2, tick));
-    let own_end = either(is_own_end(t1, tick), is_own_end(t2, tick));
-    Tally {
-        starts: tally.starts,
-        steps: more(tally.steps, true),
-        differ: more(tally.differ, !right),
-        idle: more(tally.idle, idle),
-        both: more(tally.both, both(t1.now != 0, t2.now != 0)),
-        over: more(tally.over, over),
-        touching: more(tally.touching, either(is_touching(t1), is_touching(t2))),
-        all_day: more(tally.all_day, either(is_all_day(t1), is_all_day(t2))),
-        own_end: more(tally.own_end, own_end),
-        finished: more(tally.finished, finished),
+        tick
+    } else {
+        time.after(tick)
     }
 }
 
-// One start more.
-fn with_start(tally: Tally, right: bool) -> Tally {
-    let mut t = tally;
-    t.starts = more(tally.starts, true);
-    t.differ = more(tally.differ, !right);
-    t
+impl Tally {
+    // One start more.
+    fn with_start(self, right: bool) -> Tally {
+        Tally {
+            starts: more(self.starts, true),
+            differ: more(self.differ, !right),
+            ..self
+        }
+    }
+
+    // One step more, of a player at this tick.
+    fn with_step(self, time: Time, tick: u16, stepped: Stepped, t1: Told, t2: Told) -> Tally {
+        let finished = time.ticks <= tick;
+        let right = is_step(
+            stepped,
+            finished,
+            t1.number(),
+            t2.number(),
+            moved(time, tick),
+        );
+        let idle = !finished && (t1.now.is_none() || t2.now.is_none());
+        Tally {
+            starts: self.starts,
+            steps: more(self.steps, true),
+            differ: more(self.differ, !right),
+            idle: more(self.idle, idle),
+            both: more(self.both, t1.now.is_some() && t2.now.is_some()),
+            over: more(self.over, t1.is_over() || t2.is_over()),
+            touching: more(self.touching, t1.is_touching() || t2.is_touching()),
+            all_day: more(self.all_day, t1.is_all_day() || t2.is_all_day()),
+            own_end: more(self.own_end, t1.is_own_end() || t2.is_own_end()),
+            finished: more(self.finished, finished),
+        }
+    }
 }
 
 // What was counted so far, the player, and the tick at which it must stand.
@@ -150,68 +139,46 @@ struct Way {
 }
 
 fn begun(before: Tally, tape: &[u8], first: u16) -> Way {
-    let started = player::start(tape, first);
-    let on = started.player;
     Way {
-        tally: with_start(before, is_accepted(tape, first)),
-        on,
+        tally: before.with_start(is_accepted(tape, first)),
+        on: Player::start(tape, first).unwrap_or(Player::finished()),
         tick: first,
     }
 }
 
-fn with_next(way: Way, tape: &[u8], time: Time, days: &[u32; 86400]) -> Way {
-    let tally = way.tally;
-    let tick = way.tick;
-    let before = way.on;
-    let stepped = player::step(tape, before);
-    let t1 = told_at(days, 1, time, tick);
-    let t2 = told_at(days, 2, time, tick);
-    let on = stepped.player;
-    Way {
-        tally: with_step(tally, time, tick, stepped, t1, t2),
-        on,
-        tick: moved(time, tick),
+impl Way {
+    fn with_next(self, tape: &[u8], days: &Days) -> Way {
+        let tick = self.tick;
+        let stepped = self.on.step(tape);
+        let t1 = told_at(days, 1, tick);
+        let t2 = told_at(days, 2, tick);
+        Way {
+            tally: self.tally.with_step(days.time, tick, stepped, t1, t2),
+            on: stepped.player,
+            tick: moved(days.time, tick),
+        }
     }
 }
 
 // So many steps from a first tick on.
-pub fn play(
-    before: Tally,
-    tape: &[u8],
-    time: Time,
-    first: u16,
-    steps: u32,
-    days: &[u32; 86400],
-) -> Tally {
+pub fn play(before: Tally, tape: &[u8], days: &Days, first: u16, steps: u32) -> Tally {
     let mut way = begun(before, tape, first);
-    let mut n: u32 = 0;
-    while n < steps {
-        way = with_next(way, tape, time, days);
-        n += 1;
+    for _ in 0..steps {
+        way = way.with_next(tape, days);
     }
     way.tally
 }
 
 // Two rounds from a first tick on; of a run all that is left of it, and steps of the finished player.
-pub fn play_twice(
-    before: Tally,
-    tape: &[u8],
-    time: Time,
-    first: u16,
-    days: &[u32; 86400],
-) -> Tally {
-    let steps = (time.ticks as u32) * 2;
-    play(before, tape, time, first, steps, days)
+pub fn play_twice(before: Tally, tape: &[u8], days: &Days, first: u16) -> Tally {
+    play(before, tape, days, first, u32::from(days.time.ticks) * 2)
 }
 
 // The same from each first tick below R.
-pub fn play_from_each(before: Tally, tape: &[u8], time: Time, days: &[u32; 86400]) -> Tally {
-    let ticks = time.ticks;
+pub fn play_from_each(before: Tally, tape: &[u8], days: &Days) -> Tally {
     let mut tally = before;
-    let mut first: u16 = 0;
-    while first < ticks {
-        tally = play_twice(tally, tape, time, first, days);
-        first += 1;
+    for first in 0..days.time.ticks {
+        tally = play_twice(tally, tape, days, first);
     }
     tally
 }

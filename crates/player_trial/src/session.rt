@@ -1,7 +1,6 @@
 // The plan tape of paper 01's session, played for two days, beside what its windows say written out by hand.
-use crate::days::{Time, put};
-use crate::played::{Tally, no_steps, play_from_each};
-use player_calls::listening;
+use crate::days::{Days, Listening, Time, idle};
+use crate::played::{Tally, play_from_each};
 
 // A round of 100 ticks: on receiver 1 row 0, 10–30, and row 3, 90–10; on receiver 2 row 1, 20–40.
 pub fn session() -> [u8; 26] {
@@ -12,40 +11,36 @@ pub fn session() -> [u8; 26] {
 }
 
 // Receiver 1 at a tick of the day.
-fn told1(tick: u16) -> u32 {
+fn told1(tick: u16) -> Option<Listening> {
     match tick {
-        0..=9 => listening(3, 10),
-        10..=29 => listening(0, 30),
-        90..=99 => listening(3, 10),
-        _ => 0,
+        0..=9 | 90..=99 => Some(Listening { row: 3, until: 10 }),
+        10..=29 => Some(Listening { row: 0, until: 30 }),
+        _ => None,
     }
 }
 
 // Receiver 2.
-fn told2(tick: u16) -> u32 {
+fn told2(tick: u16) -> Option<Listening> {
     match tick {
-        20..=39 => listening(1, 40),
-        _ => 0,
+        20..=39 => Some(Listening { row: 1, until: 40 }),
+        _ => None,
     }
 }
 
-pub fn fill(days: &mut [u32; 86400]) {
-    let mut tick: u16 = 0;
-    while tick < 100 {
-        put(days, 1, tick, told1(tick));
-        put(days, 2, tick, told2(tick));
-        tick += 1;
+// What its tape tells.
+pub fn told() -> Days {
+    let mut days = idle(Time {
+        run: false,
+        ticks: 100,
+    });
+    for tick in 0..100 {
+        days.put(1, tick, told1(tick));
+        days.put(2, tick, told2(tick));
     }
+    days
 }
 
 // Two days from each first tick.
 pub fn all() -> Tally {
-    let tape = session();
-    let mut days = [0u32; 86400];
-    fill(&mut days);
-    let time = Time {
-        run: false,
-        ticks: 100,
-    };
-    play_from_each(no_steps(), &tape, time, &days)
+    play_from_each(Tally::default(), &session(), &told())
 }

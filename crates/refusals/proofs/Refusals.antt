@@ -1,69 +1,70 @@
 -- Laws of checks that are made one after the other: which refusal comes out, what is known once all have passed, and what holds of every refusal that can come out.
 use Prim.Native.Nat.{◌≤◌, ◌<◌}
-use mathlib.Core.Path.{◌≡◌, refl}
+use mathlib.Core.Path.{◌≡◌, refl, sym, ◌∙◌}
 use mathlib.Core.Bool.{Bool, true, false, cond, not}
 use native.Mathlib.Omega.{arith}
 use borrow.Author.Tests.{eq-eqb, ne_eqb, eqb-true, eqb-false, not-true, not-false}
 use Rattle.refusals.specs.declared.Refusal.{Refusal}
-use Rattle.refusals.specs.declared.Refusal.TheVariants.{Accepted, Lists, Rows, Space, Ticks, Hours, Window, Mark, NoPlan, NotPlan, Buffer, Form, Tape, FirstTick, Gap, NoRow, Candidates}
-use Rattle.refusals.specs.Refusals.{number_of, asked, passes, ◌then◌}
+use Rattle.refusals.specs.declared.Refusal.TheVariants as refusal
+use Rattle.std.specs.Prelude.{Result, Ok, Err}
+use Rattle.std.specs.Result.{is_err}
+use Rattle.refusals.specs.Numbers.{number}
+use Rattle.refusals.specs.Refusals.{Outcome, Accepted, Lists, Rows, Space, Ticks, Hours, Window, Mark, NoPlan, NotPlan, Buffer, Form, Tape, FirstTick, Gap, NoRow, Candidates, number_of, asked, passes, ◌then◌}
 
 -- a check that refuses nothing
-abbrev pub Passed : Refusal → Type 0
+abbrev pub Passed : Outcome → Type 0
 Passed r = number_of r ≡ 0
 
+-- a refusal has a number above 0, of at most two digits
+pub number_within : (r : Refusal) → (0 < number r) × (number r < 100)
+number_within refusal.Lists = (omega arith, omega arith)
+number_within refusal.Rows = (omega arith, omega arith)
+number_within refusal.Space = (omega arith, omega arith)
+number_within refusal.Ticks = (omega arith, omega arith)
+number_within refusal.Hours = (omega arith, omega arith)
+number_within refusal.Window = (omega arith, omega arith)
+number_within refusal.Mark = (omega arith, omega arith)
+number_within refusal.NoPlan = (omega arith, omega arith)
+number_within refusal.NotPlan = (omega arith, omega arith)
+number_within refusal.Buffer = (omega arith, omega arith)
+number_within refusal.Form = (omega arith, omega arith)
+number_within refusal.Tape = (omega arith, omega arith)
+number_within refusal.FirstTick = (omega arith, omega arith)
+number_within refusal.Gap = (omega arith, omega arith)
+number_within refusal.NoRow = (omega arith, omega arith)
+number_within refusal.Candidates = (omega arith, omega arith)
+
 -- a number has at most two digits
-pub number_below : (r : Refusal) → number_of r < 100
-number_below Accepted = omega arith
-number_below Lists = omega arith
-number_below Rows = omega arith
-number_below Space = omega arith
-number_below Ticks = omega arith
-number_below Hours = omega arith
-number_below Window = omega arith
-number_below Mark = omega arith
-number_below NoPlan = omega arith
-number_below NotPlan = omega arith
-number_below Buffer = omega arith
-number_below Form = omega arith
-number_below Tape = omega arith
-number_below FirstTick = omega arith
-number_below Gap = omega arith
-number_below NoRow = omega arith
-number_below Candidates = omega arith
+pub number_below : (r : Outcome) → number_of r < 100
+number_below (Ok _) = omega arith
+number_below (Err r) = (number_within r).1
 
 -- only an accepted call has the number 0
-pub passed_accepted : (r : Refusal) → Passed r → r ≡ Accepted
-passed_accepted Accepted p = refl
-passed_accepted Lists p = absurd (omega arith)
-passed_accepted Rows p = absurd (omega arith)
-passed_accepted Space p = absurd (omega arith)
-passed_accepted Ticks p = absurd (omega arith)
-passed_accepted Hours p = absurd (omega arith)
-passed_accepted Window p = absurd (omega arith)
-passed_accepted Mark p = absurd (omega arith)
-passed_accepted NoPlan p = absurd (omega arith)
-passed_accepted NotPlan p = absurd (omega arith)
-passed_accepted Buffer p = absurd (omega arith)
-passed_accepted Form p = absurd (omega arith)
-passed_accepted Tape p = absurd (omega arith)
-passed_accepted FirstTick p = absurd (omega arith)
-passed_accepted Gap p = absurd (omega arith)
-passed_accepted NoRow p = absurd (omega arith)
-passed_accepted Candidates p = absurd (omega arith)
+pub passed_accepted : (r : Outcome) → Passed r → r ≡ Accepted
+passed_accepted (Ok _) p = refl
+passed_accepted (Err r) p = absurd (omega (arith, (number_within r).0))
+
+-- a check that gives an error refuses, any other passes
+pub err_refuses : (r : Outcome) → is_err r ≡ true → Passed r → ⊥
+err_refuses (Ok _) e p = cc e
+err_refuses (Err r) e p = omega (arith, (number_within r).0)
+
+pub ok_passes : (r : Outcome) → is_err r ≡ false → Passed r
+ok_passes (Ok _) e = refl
+ok_passes (Err r) e = cc e
 
 -- ---- what comes out, from what a function that makes the check returned
 
-module _ {a r : Refusal} (e : r ≡ a) where
+module _ {a r : Outcome} (e : r ≡ a) where
   -- the first check refuses
-  pub then_first : (b : Refusal) → (number_of r ≡ 0 → ⊥) → r ≡ (a then b)
+  pub then_first : (b : Outcome) → (number_of r ≡ 0 → ⊥) → r ≡ (a then b)
   then_first b n = rw (← e, ne_eqb (number_of r) 0 n) refl
 
   -- the first check passes
-  pub then_next : {b x : Refusal} → number_of r ≡ 0 → x ≡ b → x ≡ (a then b)
+  pub then_next : {b x : Outcome} → number_of r ≡ 0 → x ≡ b → x ≡ (a then b)
   then_next n q = rw (← e, eq-eqb (number_of r) 0 n) q
 
-module _ {a b : Bool} (r : Refusal) (e : a ≡ b) where
+module _ {a b : Bool} (r : Outcome) (e : a ≡ b) where
   -- the test of a check fails
   pub asked_failed : not a ≡ true → r ≡ asked b r
   asked_failed n = rw (← e, not-true a n) refl
@@ -72,43 +73,53 @@ module _ {a b : Bool} (r : Refusal) (e : a ≡ b) where
   pub asked_held : not a ≡ false → Accepted ≡ asked b r
   asked_held n = rw (← e, not-false a n) refl
 
+-- ---- the same, of a check whose refusal is handed on by `?`
+
+-- the first check refuses
+pub refused_first : {a r : Outcome} {e : Refusal} → r ≡ a → r ≡ Err e → (b : Outcome) → Err e ≡ (a then b)
+refused_first {e = e} h k b = sym k ∙ then_first h b (λ n. absurd (omega (arith, rw k at n, (number_within e).0)))
+
+-- the first check passes
+pub passed_next : {a r b x : Outcome} {u : Unit {0}} → r ≡ a → r ≡ Ok u → x ≡ b → x ≡ (a then b)
+passed_next h k = then_next h (rw k refl)
+
 -- ---- all checks passed
 
-pub asked_passes : (x : Bool) (r : Refusal) → x ≡ true → Passed (asked x r)
+pub asked_passes : (x : Bool) (r : Outcome) → x ≡ true → Passed (asked x r)
 asked_passes x r e = rw e refl
 
 -- three checks, whichever two are taken together
-pub then_assoc : (a b c : Refusal) → ((a then b) then c) ≡ (a then b then c)
+pub then_assoc : (a b c : Outcome) → ((a then b) then c) ≡ (a then b then c)
 then_assoc a b c = go (passes a) refl
   where
     go : (x : Bool) → passes a ≡ x → (cond x b a then c) ≡ cond x (b then c) a
     go true e = refl
     go false e = rw e refl
 
-pub then_passes : (a b : Refusal) → Passed a → Passed b → Passed (a then b)
+pub then_passes : (a b : Outcome) → Passed a → Passed b → Passed (a then b)
 then_passes a b p q = rw (eq-eqb (number_of a) 0 p) q
 
-pub then_passed : (a b : Refusal) → Passed (a then b) → Passed a × Passed b
+pub then_passed : (a b : Outcome) → Passed (a then b) → Passed a × Passed b
 then_passed a b = go (passes a) refl
   where
     go : (x : Bool) → passes a ≡ x → Passed (cond x b a) → Passed a × Passed b
     go true e p = (eqb-true (number_of a) 0 e, p)
     go false e p = absurd (eqb-false (number_of a) 0 e p)
 
-pub asked_passed : (x : Bool) (r : Refusal) → 1 ≤ number_of r → Passed (asked x r) → x ≡ true
+pub asked_passed : (x : Bool) (r : Outcome) → 1 ≤ number_of r → Passed (asked x r) → x ≡ true
 asked_passed true r h p = refl
 asked_passed false r h p = absurd (omega arith)
 
 -- ---- what holds of each refusal that can come out holds of the one that does
 
-pub then_either : (P : Refusal → Type 0) {a b : Refusal} → P a → P b → P (a then b)
+pub then_either : (P : Outcome → Type 0) {a b : Outcome} → P a → P b → P (a then b)
 then_either P {a} {b} f g = go (passes a)
   where
     go : (x : Bool) → P (cond x b a)
     go true = g
     go false = f
 
-pub asked_either : (P : Refusal → Type 0) (x : Bool) {r : Refusal} → P Accepted → P r → P (asked x r)
+pub asked_either : (P : Outcome → Type 0) (x : Bool) {r : Outcome} → P Accepted → P r → P (asked x r)
 asked_either P true f g = f
 asked_either P false f g = g
 

@@ -1,66 +1,45 @@
-// The refusals of papers 01 and 02, by their numbers, and what a call reports.
+// The refusals of papers 01 and 02, by their numbers.
 #![tactic(auto)]
 
 ghost use Rattle.std.specs.Prelude.{◌≡◌};
-ghost use Rattle.refusals.specs.Refusals.{number_of, answered};
+ghost use Rattle.refusals.specs.Numbers.{number};
+ghost use Rattle.refusals.specs.Refusals.{number_of};
 
-// Why a call is refused, or that it is accepted.
-#[derive(Clone, Copy)]
+// Why a call is refused. Its number is that of the papers.
+#[derive(Clone, Copy, Debug, PartialEq, Eq)]
 pub enum Refusal {
-    Accepted,
-    Lists,
-    Rows,
-    Space,
-    Ticks,
-    Hours,
-    Window,
-    Mark,
-    NoPlan,
-    NotPlan,
-    Buffer,
-    Form,
-    Tape,
-    FirstTick,
-    Gap,
-    NoRow,
-    Candidates,
+    Lists = 1,
+    Rows = 2,
+    Space = 3,
+    Ticks = 4,
+    Hours = 5,
+    Window = 6,
+    Mark = 7,
+    NoPlan = 8,
+    NotPlan = 9,
+    Buffer = 10,
+    Form = 11,
+    Tape = 12,
+    FirstTick = 13,
+    Gap = 14,
+    NoRow = 15,
+    Candidates = 16,
 }
 
-// What a call reports.
-#[derive(Clone, Copy)]
-pub struct Answer {
-    pub refusal: Refusal,
-    pub count: usize,
-}
+impl From<Refusal> for u8 {
+    ghost from_gives = { λ refusal n. n ≡ number refusal };
 
-// The refusal's number in the papers; 0 for accepted.
-pub fn number(refusal: Refusal) -> u8
-    ensures { result ≡ number_of refusal }
-{
-    match refusal {
-        Refusal::Accepted => 0,
-        Refusal::Lists => 1,
-        Refusal::Rows => 2,
-        Refusal::Space => 3,
-        Refusal::Ticks => 4,
-        Refusal::Hours => 5,
-        Refusal::Window => 6,
-        Refusal::Mark => 7,
-        Refusal::NoPlan => 8,
-        Refusal::NotPlan => 9,
-        Refusal::Buffer => 10,
-        Refusal::Form => 11,
-        Refusal::Tape => 12,
-        Refusal::FirstTick => 13,
-        Refusal::Gap => 14,
-        Refusal::NoRow => 15,
-        Refusal::Candidates => 16,
+    fn from(refusal: Refusal) -> u8 {
+        refusal as u8
     }
 }
 
-// What a refused call reports: "with count 0".
-pub fn refused(refusal: Refusal) -> Answer
-    ensures { result ≡ answered refusal 0 }
+// The number of what a check reports; 0 for accepted.
+pub fn number(outcome: Result<(), Refusal>) -> u8
+    ensures { result ≡ number_of outcome }
 {
-    Answer { refusal, count: 0 }
+    match outcome {
+        Ok(()) => 0,
+        Err(refusal) => refusal.into(),
+    }
 }

@@ -1,6 +1,6 @@
 -- What the parts of a call give is what `replied` yields: the reader's answer, then the planner's, then the lines.
 use Prim.Native.Nat.{ℕ, suc, ◌+◌, ◌*◌, ◌≤◌, ◌<◌}
-use mathlib.Core.Path.{◌≡◌, refl, sym, ap, ◌∙◌, subst}
+use mathlib.Core.Path.{◌≡◌, refl, sym, ◌∙◌, subst}
 use mathlib.Core.Bool.{Bool, true, false, cond}
 use mathlib.Core.List.{List, [], ◌∷◌, ◌++◌}
 use mathlib.Core.Option.{Option, none, some}
@@ -11,11 +11,8 @@ use lib.Seq.{length-take-le}
 use borrow.Author.Tests.{eq-eqb, ne_eqb, eqb-true, eqb-false, leb-true, le-leb, lt-leb}
 use Rattle.basics.specs.Lists.{at, Put}
 use Rattle.labels.proofs.Heard.{heard_le}
-use Rattle.refusals.specs.declared.Refusal.{Refusal}
-use Rattle.refusals.specs.declared.Refusal.TheVariants.{Lists, Rows, Form}
-use Rattle.refusals.specs.Refusals.{number_of}
-use Rattle.table.specs.declared.Setting.{Setting}
-use Rattle.table.specs.Tables.{setting_of, Table, table}
+use Rattle.refusals.specs.Refusals.{number_of, Lists, Rows, Form, Outcome}
+use Rattle.table.specs.Tables.{Table}
 use Rattle.table.specs.Planned.{checked, best_plan, Planned, given, planned, space_after}
 use Rattle.refusals.proofs.Refusals.{Passed, number_below}
 use Rattle.table.proofs.Checked.{checked_valid}
@@ -24,7 +21,7 @@ use Rattle.basics.specs.Limits.{has_places}
 use Rattle.fleet_tape.specs.Form.{Fleet, fleet_of}
 use Rattle.fleet_tape.specs.Reading.{Reading, reading, refused, taken, judged, fleet_read}
 use Rattle.reply.specs.Lines.{heard_word, refused_word, word_line, row_line, row_lines, printed}
-use Rattle.reply.specs.Replied.{places, refused_with, read_answer, tape_answer, Replied, replying, replied_with, replied, InFront}
+use Rattle.reply.specs.Replied.{places, table_read, refused_with, read_answer, tape_answer, Replied, replying, replied_with, replied, InFront}
 use Rattle.reply.specs.Room.{Answerable, FreshLists}
 use Rattle.basics.proofs.Puts.{put_front}
 use Rattle.reply.proofs.Putting.{word_length, row_length}
@@ -103,11 +100,11 @@ answer_replied p space {out} a e s =
     replying_same f.0 f.1 s
 
 -- a refusal leaves the working space as it was: any but 8
-space_kept : (refusal : Refusal) (space : List ℕ) → (number_of refusal ≡ 0 → ⊥) → (number_of refusal ≡ 8 → ⊥) → space ≡ space_after refusal space
+space_kept : (refusal : Outcome) (space : List ℕ) → (number_of refusal ≡ 0 → ⊥) → (number_of refusal ≡ 8 → ⊥) → space ≡ space_after refusal space
 unfolding space_after
 space_kept refusal space n m = rw (ne_eqb (number_of refusal) 0 n, ne_eqb (number_of refusal) 8 m) refl
 
-pub refusal_replied : (refusal : Refusal) (space : List ℕ) {out after : List ℕ} {r : ℕ} → (number_of refusal ≡ 0 → ⊥) → (number_of refusal ≡ 8 → ⊥) → 400 ≤ length out
+pub refusal_replied : (refusal : Outcome) (space : List ℕ) {out after : List ℕ} {r : ℕ} → (number_of refusal ≡ 0 → ⊥) → (number_of refusal ≡ 8 → ⊥) → 400 ≤ length out
     → Put out 0 (word_line refused_word (number_of refusal)) after r → replying r after space ≡ replied_with (refused_with refusal) out space
 refusal_replied refusal space n m h e =
     answer_replied (refused_with refusal) space (record { count = λ z. absurd (n z); labels = λ z. absurd (n z); fits = h })
@@ -120,9 +117,16 @@ record Sound (r : Reading) : Type 0 where
   not_8 : number_of r.report.refusal ≡ 8 → ⊥
   few : r.report.rows ≤ 64
 
-places_length : length places ≡ 64
+pub places_length : length places ≡ 64
 unfolding places
 places_length = refl
+
+-- so many are taken of a list that has them
+pub taken_length : (n : ℕ) (l : List ℕ) → n ≤ length l → length (take n l) ≡ n
+taken_length n l h = length-take-le n l h
+
+-- why the lists have places for the rows
+pub ruleset room_for_rows = (places_length, taken_length)
 
 module _ (tape : List ℕ) where
   judged_sound : (o : Option Fleet) → Sound (judged o places places places)
@@ -150,9 +154,9 @@ module _ (tape : List ℕ) where
     sound : Sound r
     sound = rw read_places read_sound
 
-    -- the rows fit each list of 64 places
-    pub rows_fit : {n : ℕ} {before : List ℕ} → n ≡ length before → before ≡ places → r.report.rows ≤ n
-    rows_fit q p = omega (arith, sound.few, ap length p, places_length)
+    -- the rows fit lists of 64 places
+    pub rows_few : r.report.rows ≤ 64
+    rows_few = sound.few
 
     -- the reader refuses
     pub reader_refused : (space : List ℕ) → (number_of r.report.refusal ≡ 0 → ⊥)
@@ -164,11 +168,11 @@ module _ (tape : List ℕ) where
         ∙ sym (rw (← read_places, ne_eqb (number_of r.report.refusal) 0 n) refl)
 
     -- the reader accepts
-    pub reader_accepted : (space : List ℕ) → number_of r.report.refusal ≡ 0 → {S : Setting} → S ≡ setting_of r.report.kind r.report.ticks 0 r.report.hours
-        → replied_with (planned (table S (take r.report.rows r.starts) (take r.report.rows r.ends) (take r.report.rows r.marks)) (take r.report.rows labels) (length space)) out space
+    pub reader_accepted : (space : List ℕ) → number_of r.report.refusal ≡ 0
+        → replied_with (planned (table_read r) (take r.report.rows labels) (length space)) out space
         ≡ replied_with (read_answer (fleet_read tape places places places) (length space)) out space
     unfolding read_answer
-    reader_accepted space z h = rw (h, l.labels_are) (sym (rw (← read_places, eq-eqb (number_of r.report.refusal) 0 z) refl))
+    reader_accepted space z = rw l.labels_are (sym (rw (← read_places, eq-eqb (number_of r.report.refusal) 0 z) refl))
 
 -- ---- the whole call
 

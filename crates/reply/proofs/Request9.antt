@@ -7,8 +7,7 @@ use borrow.Author.Tests.{le-leb}
 use lib.Dec.{leb}
 use lib.ListN.{length, take}
 use Rattle.basics.specs.Lists.{front}
-use Rattle.refusals.specs.Refusals.{passes}
-use Rattle.refusals.specs.declared.Refusal.TheVariants.{Form}
+use Rattle.refusals.specs.Refusals.{passes, Form}
 use Rattle.table.specs.Planned.{Planned}
 use Rattle.table.proofs.Calls.{planned_anyhow}
 use Rattle.table.proofs.Request9.{Left, clears}

@@ -3,8 +3,7 @@ use Prim.Native.Nat.{ℕ}
 use mathlib.Core.Path.{◌≡◌, refl}
 use mathlib.Core.List.{List, [], ◌∷◌}
 use Rattle.table.specs.Planned.{answering}
-use Rattle.refusals.specs.Refusals.{answered}
-use Rattle.refusals.specs.declared.Refusal.TheVariants.{Buffer}
+use Rattle.refusals.specs.Refusals.{answered, Buffer}
 use Rattle.fleet_tape.proofs.Session.{session}
 use Rattle.reply.specs.Lines.{heard_word, word_line, row_line, printed}
 use Rattle.reply.specs.Replied.{tape_answer}

@@ -2,9 +2,7 @@
 use Rattle.std.specs.Prelude.{ℕ, ◌≤◌, ◌≡◌, cond, List, [], leb, length, take, replicate}
 use Rattle.basics.specs.Limits.{max_rows}
 use Rattle.basics.specs.Lists.{front}
-use Rattle.refusals.specs.declared.Refusal.{Refusal}
-use Rattle.refusals.specs.declared.Refusal.TheVariants.{Form}
-use Rattle.refusals.specs.Refusals.{answered, passes}
+use Rattle.refusals.specs.Refusals.{answered, passes, Form, Outcome}
 use Rattle.table.specs.Tables.{setting_of, Table, table}
 use Rattle.table.specs.Planned.{Planned, answering, planned, space_after}
 use Rattle.fleet_tape.specs.Reading.{Reading, fleet_read}
@@ -30,7 +28,7 @@ table_read r =
     (take r.report.rows r.ends)
     (take r.report.rows r.marks)
 
-abbrev pub refused_with : Refusal → Planned
+abbrev pub refused_with : Outcome → Planned
 refused_with refusal = answering (answered refusal 0) []
 
 -- what was read is planned, with so many bytes of working space, unless the reader refuses

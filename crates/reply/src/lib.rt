@@ -1,9 +1,10 @@
 // From the bytes of a fleet tape to the bytes that `hubplan` prints.
 #![tactic(auto)]
 
-ghost use Rattle.std.specs.Prelude.{◌≡◌, ◌+◌, ◌<◌, length};
-ghost use Rattle.refusals.specs.Refusals.{number_of};
-ghost use Rattle.table.specs.Tables.{table};
+ghost use Rattle.std.specs.Prelude.{◌≡◌, ◌+◌, ◌<◌, [], ◌∷◌, length};
+ghost use Rattle.refusals.specs.Numbers.{number};
+ghost use Rattle.refusals.specs.Refusals.{answer_of};
+ghost use Rattle.table.specs.Tables.{lent};
 ghost use Rattle.table.specs.Planned.{answering, planned};
 ghost use Rattle.fleet_tape.specs.Reading.{fleet_read};
 ghost use Rattle.reply.specs.Lines.{decimal, word_line, row_line, row_lines, refused_word, printed};
@@ -12,8 +13,8 @@ ghost use Rattle.basics.specs.Lists.{Put};
 ghost use Rattle.reply.specs.Room.{Room, NumberRoom, RowRoom, LabelsRoom, WordRoom, Answerable, FreshLists};
 
 use basics::MAX_ROWS;
-use refusals::{Answer, Refusal};
-use table::Setting;
+use refusals::Refusal;
+use table::{Rows, Setting, Table};
 
 // The output that a call needs, in bytes; the longest reply has 319.
 pub const OUT_BYTES: usize = 400;
@@ -26,48 +27,52 @@ fn digit(n: usize) -> u8
     requires { n < 10 }
     ensures { result ≡ 48 + n }
 {
-    48 + (n as u8)
+    b'0' + (n as u8)
 }
 
-// Puts bytes at a place; the result is the place after them.
+// Puts a byte at a place; the result is the place after it. Bytes that are computed are put one by one: an array of them would be one more that `reply` holds.
+// C lends the output, and there is no heap: each part takes it and a place. An `fmt::Write` for `write!`, whose contract says the bytes, would be no plainer.
+fn put_byte(out: &mut [u8], place: usize, byte: u8) -> usize
+    requires { Room out.old place 1 }
+    ensures { Put out.old place (byte ∷ []) out.new result }
+{
+    out[place] = byte;
+    place + 1
+}
+
+// Puts bytes at a place.
 fn put(out: &mut [u8], place: usize, bytes: &[u8]) -> usize
     requires { Room out.old place (length bytes.now) }
     ensures { Put out.old place bytes.now out.new result }
 {
-    let mut at = place;
-    let mut i: usize = 0;
-    while i < bytes.len() {
-        out[at] = bytes[i];
-        at += 1;
-        i += 1;
-    }
-    at
+    let end = place + bytes.len();
+    out[place..end].copy_from_slice(bytes);
+    end
 }
 
 // Puts a number in decimal.
+#[tactic(auto, using(crate::proofs::Putting::one_digit, crate::proofs::Putting::two_digits))]
 fn put_number(out: &mut [u8], place: usize, n: usize) -> usize
     requires { NumberRoom n out.old place }
     ensures { Put out.old place (decimal n) out.new result }
 {
     if n < 10 {
-        out[place] = digit(n);
-        return place + 1;
+        return put_byte(out, place, digit(n));
     }
-    out[place] = digit(n / 10);
-    out[place + 1] = digit(n % 10);
-    place + 2
+    let second = put_byte(out, place, digit(n / 10));
+    put_byte(out, second, digit(n % 10))
 }
 
 // Puts the line of a row.
+#[tactic(auto, using(crate::proofs::Putting::number_ends))]
 fn put_row(out: &mut [u8], place: usize, row: usize, label: u8) -> usize
     requires { RowRoom row label out.old place }
     ensures { Put out.old place (row_line row label) out.new result }
 {
     let between = put_number(out, place, row);
-    out[between] = b' ';
-    let end = put_number(out, between + 1, basics::wide(label));
-    out[end] = b'\n';
-    end + 1
+    let second = put_byte(out, between, b' ');
+    let end = put_number(out, second, usize::from(label));
+    put_byte(out, end, b'\n')
 }
 
 // Puts the lines of all rows.
@@ -76,65 +81,57 @@ fn put_rows(out: &mut [u8], place: usize, labels: &[u8]) -> usize
     ensures { Put out.old place (row_lines 0 labels.now) out.new result }
 {
     let mut at = place;
-    let mut row: usize = 0;
-    while row < labels.len() {
-        at = put_row(out, at, row, labels[row]);
-        row += 1;
+    for (row, label) in labels.iter().enumerate() {
+        at = put_row(out, at, row, *label);
     }
     at
 }
 
 // Puts a line of a word and a number at the front.
+#[tactic(auto, using(crate::proofs::Putting::number_ends))]
 fn put_word(out: &mut [u8], word: &[u8], n: usize) -> usize
     requires { WordRoom word.now n out.old }
     ensures { Put out.old 0 (word_line word.now n) out.new result }
 {
     let between = put(out, 0, word);
-    out[between] = b' ';
-    let end = put_number(out, between + 1, n);
-    out[end] = b'\n';
-    end + 1
+    let second = put_byte(out, between, b' ');
+    let end = put_number(out, second, n);
+    put_byte(out, end, b'\n')
 }
 
 // Puts the line of a refusal at the front.
 fn put_refused(out: &mut [u8], refusal: Refusal) -> usize
     requires { Room out.old 0 out_bytes }
-    ensures { Put out.old 0 (word_line refused_word (number_of refusal)) out.new result }
+    ensures { Put out.old 0 (word_line refused_word (number refusal)) out.new result }
 {
-    put_word(out, b"refused", basics::wide(refusals::number(refusal)))
+    put_word(out, b"refused", usize::from(u8::from(refusal)))
 }
 
 // Puts the lines of a planner's answer at the front.
-fn put_answer(out: &mut [u8], answer: Answer, labels: &[u8]) -> usize
-    requires { Answerable (answering answer labels.now) out.old }
-    ensures { Put out.old 0 (printed (answering answer labels.now)) out.new result }
+fn put_answer(out: &mut [u8], answer: Result<usize, Refusal>, labels: &[u8]) -> usize
+    requires { Answerable (answering (answer_of answer) labels.now) out.old }
+    ensures { Put out.old 0 (printed (answering (answer_of answer) labels.now)) out.new result }
 {
-    let refusal = answer.refusal;
-    if refusals::number(refusal) != 0 {
-        return put_refused(out, refusal);
+    match answer {
+        Err(refusal) => put_refused(out, refusal),
+        Ok(count) => {
+            let at = put_word(out, b"heard", count);
+            put_rows(out, at, labels)
+        }
     }
-    let at = put_word(out, b"heard", answer.count);
-    put_rows(out, at, labels)
 }
 
 // The reply to a table, whose labels are lent.
-fn reply_table(
-    setting: Setting,
-    starts: &[u16],
-    ends: &[u16],
-    marks: &[u8],
-    labels: &mut [u8],
-    out: &mut [u8],
-    space: &mut [u8],
-) -> usize
+fn reply_table(table: Table, labels: &mut [u8], out: &mut [u8], space: &mut [u8]) -> usize
     requires { Room out.old 0 out_bytes }
-    ensures { replying result out.new space.new ≡ replied_with (planned (table setting starts.now ends.now marks.now) labels.old (length space.old)) out.old space.old }
+    ensures { replying result out.new space.new ≡ replied_with (planned (lent table.entry) labels.old (length space.old)) out.old space.old }
 {
-    let answer = planner::plan(setting, starts, ends, marks, labels, space);
+    let answer = planner::plan(table, labels, space);
     put_answer(out, answer, labels)
 }
 
 // The reply to a tape that is not too long, over lent lists of 64 places.
+#[tactic(auto, using(crate::proofs::Replying::room_for_rows))]
 fn reply_lent(
     tape: &[u8],
     out: &mut [u8],
@@ -147,25 +144,28 @@ fn reply_lent(
     requires { FreshLists starts.old ends.old marks.old labels.old out.old }
     ensures { replying result out.new space.new ≡ replied_with (read_answer (fleet_read tape.now places places places) (length space.old)) out.old space.old }
 {
-    let report = fleet_tape::read_fleet(tape, starts, ends, marks);
-    let refusal = report.refusal;
-    if refusals::number(refusal) != 0 {
-        return put_refused(out, refusal);
-    }
-    let kind = report.kind;
+    let report = match fleet_tape::read_fleet(tape, starts, ends, marks) {
+        Err(refusal) => return put_refused(out, refusal),
+        Ok(report) => report,
+    };
+    let hours = report.hours;
     let rows = report.rows;
-    let hours = fleet_tape::hours_in(report);
-    // "`hubplan` uses 0" as the gap.
-    let setting = table::setting_of(kind, report.ticks, 0, hours);
-    reply_table(
-        setting,
-        &starts[..rows],
-        &ends[..rows],
-        &marks[..rows],
-        &mut labels[..rows],
-        out,
-        space,
-    )
+    prove!(rows <= MAX_ROWS);
+    let table = Table {
+        setting: Setting {
+            kind: report.kind,
+            ticks: report.ticks,
+            // "`hubplan` uses 0".
+            gap: 0,
+            hours,
+        },
+        rows: Rows {
+            starts: &starts[..rows],
+            ends: &ends[..rows],
+            marks: &marks[..rows],
+        },
+    };
+    reply_table(table, &mut labels[..rows], out, space)
 }
 
 // THE REPLY. Writes what `hubplan` prints for a tape to the front of the output and returns its length. Result, output and working space are what the

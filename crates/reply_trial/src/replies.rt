@@ -1,10 +1,10 @@
 // Replies to fleet tapes: paper 01's session, rows for one receiver only, rows that send all day, touching rows, refusals, and tapes of up to 400 bytes and of more.
-use trial_calls::{BEFORE, LENT_BYTES, at_most, first_bytes, is_left, is_written};
-use trial_report::{Group, no_cases, with_case};
+use trial_calls::{BEFORE, LENT_BYTES, first, is_left, is_written};
+use trial_report::Group;
 
 // The length of the reply if it is lent so many of the bytes of working space.
 fn reply_in(tape: &[u8], out: &mut [u8], space: &mut [u8], bytes: usize) -> usize {
-    let m = at_most(bytes, space.len());
+    let m = bytes.min(space.len());
     reply::reply(tape, out, &mut space[..m])
 }
 
@@ -13,13 +13,7 @@ fn is_replied_in(tape: &[u8], bytes: usize, number: u8, text: &[u8]) -> bool {
     let mut out = [BEFORE; 410];
     let mut space = [BEFORE; LENT_BYTES];
     let n = reply_in(tape, &mut out, &mut space, bytes);
-    if n != text.len() {
-        return false;
-    }
-    if !is_written(&out, text) {
-        return false;
-    }
-    is_left(&space, number)
+    n == text.len() && is_written(&out, text) && is_left(&space, number)
 }
 
 // The same with all of it.
@@ -94,34 +88,31 @@ fn hours_tape(command: u8, q: u8, end: u8, number: u8, text: &[u8]) -> bool {
 
 // Tapes that are taken and planned, and refusals of the planner.
 fn planned(group: Group) -> Group {
-    let mut g = with_case(group, session());
-    g = with_case(g, run_tape(0x40, b"heard 2\n0 2\n1 0\n2 1\n"));
-    g = with_case(g, run_tape(0x41, b"heard 2\n0 0\n1 2\n2 1\n"));
-    g = with_case(g, is_replied(&[0x10, 0x00, 0x64, 0x7F], 0, b"heard 0\n"));
-    g = with_case(g, round_tape(0, 2, 0, b"heard 1\n0 1\n"));
-    g = with_case(g, round_tape(0, 1, 4, b"refused 4\n"));
-    g = with_case(g, round_tape(0xA8, 0xC0, 0, b"heard 1\n0 1\n"));
-    g = with_case(g, round_tape(0xA8, 0xC1, 4, b"refused 4\n"));
-    g = with_case(g, hours_tape(0x40, 100, 20, 0, b"heard 1\n0 1\n"));
-    g = with_case(g, hours_tape(0x40, 101, 20, 5, b"refused 5\n"));
-    with_case(g, hours_tape(0x40, 100, 10, 6, b"refused 6\n"))
+    let mut g = group.with_case(session());
+    g = g.with_case(run_tape(0x40, b"heard 2\n0 2\n1 0\n2 1\n"));
+    g = g.with_case(run_tape(0x41, b"heard 2\n0 0\n1 2\n2 1\n"));
+    g = g.with_case(is_replied(&[0x10, 0x00, 0x64, 0x7F], 0, b"heard 0\n"));
+    g = g.with_case(round_tape(0, 2, 0, b"heard 1\n0 1\n"));
+    g = g.with_case(round_tape(0, 1, 4, b"refused 4\n"));
+    g = g.with_case(round_tape(0xA8, 0xC0, 0, b"heard 1\n0 1\n"));
+    g = g.with_case(round_tape(0xA8, 0xC1, 4, b"refused 4\n"));
+    g = g.with_case(hours_tape(0x40, 100, 20, 0, b"heard 1\n0 1\n"));
+    g = g.with_case(hours_tape(0x40, 101, 20, 5, b"refused 5\n"));
+    g.with_case(hours_tape(0x40, 100, 10, 6, b"refused 6\n"))
 }
 
 // Commands 42 to 45, marks 2 to 5. May on 1, must on 1, may on 2, must on 2: row 1 takes receiver 1, which leaves row 0 unheard. Two musts on 1
 // that overlap. Must, and may, on the closed receiver 1; must on receiver 2 beside it.
 fn one_receiver(group: Group) -> Group {
-    let mut g = with_case(
-        group,
-        session_tape(
-            [0x42, 0x43, 0x44, 0x45],
-            0,
-            b"heard 3\n0 0\n1 1\n2 2\n3 2\n",
-        ),
-    );
-    g = with_case(g, session_tape([0x43, 0x43, 0x40, 0x40], 8, b"refused 8\n"));
-    g = with_case(g, hours_tape(0x43, 0, 20, 8, b"refused 8\n"));
-    g = with_case(g, hours_tape(0x42, 0, 20, 0, b"heard 0\n0 0\n"));
-    with_case(g, hours_tape(0x45, 0, 20, 0, b"heard 1\n0 2\n"))
+    let mut g = group.with_case(session_tape(
+        [0x42, 0x43, 0x44, 0x45],
+        0,
+        b"heard 3\n0 0\n1 1\n2 2\n3 2\n",
+    ));
+    g = g.with_case(session_tape([0x43, 0x43, 0x40, 0x40], 8, b"refused 8\n"));
+    g = g.with_case(hours_tape(0x43, 0, 20, 8, b"refused 8\n"));
+    g = g.with_case(hours_tape(0x42, 0, 20, 0, b"heard 0\n0 0\n"));
+    g.with_case(hours_tape(0x45, 0, 20, 0, b"heard 1\n0 2\n"))
 }
 
 // A round of 100 ticks with the rows s–s, 20 to `end1` and 90 to `end2`, with these commands.
@@ -156,20 +147,11 @@ fn all_day(group: Group) -> Group {
     let three = b"heard 2\n0 1\n1 2\n2 0\n";
     let must = b"heard 3\n0 1\n1 2\n2 2\n";
     let second = b"heard 3\n0 2\n1 1\n2 1\n";
-    let mut g = with_case(
-        group,
-        all_day_tape([0x40, 0x40, 0x40], 10, 20, 90, 0, three),
-    );
-    g = with_case(
-        g,
-        all_day_tape([0x41, 0x41, 0x41], 10, 20, 90, 8, b"refused 8\n"),
-    );
-    g = with_case(g, all_day_tape([0x41, 0x40, 0x40], 99, 40, 10, 0, must));
-    g = with_case(g, all_day_tape([0x44, 0x40, 0x42], 0, 40, 10, 0, second));
-    with_case(
-        g,
-        all_day_tape([0x40, 0x40, 0x40], 100, 40, 10, 6, b"refused 6\n"),
-    )
+    let mut g = group.with_case(all_day_tape([0x40, 0x40, 0x40], 10, 20, 90, 0, three));
+    g = g.with_case(all_day_tape([0x41, 0x41, 0x41], 10, 20, 90, 8, b"refused 8\n"));
+    g = g.with_case(all_day_tape([0x41, 0x40, 0x40], 99, 40, 10, 0, must));
+    g = g.with_case(all_day_tape([0x44, 0x40, 0x42], 0, 40, 10, 0, second));
+    g.with_case(all_day_tape([0x40, 0x40, 0x40], 100, 40, 10, 6, b"refused 6\n"))
 }
 
 // 20–40 and 40–`end` in a round of 100 ticks that receiver 1 alone must hear.
@@ -191,8 +173,8 @@ fn touching_run() -> bool {
 
 // "`hubplan` uses 0" as the gap (request 4), so that one receiver hears windows that touch, on one side and on both.
 fn touching(group: Group) -> Group {
-    let g = with_case(group, touching_round(60));
-    with_case(with_case(g, touching_round(20)), touching_run())
+    let g = group.with_case(touching_round(60));
+    g.with_case(touching_round(20)).with_case(touching_run())
 }
 
 // A round of 10 ticks with the row 4–5 three times, lent so many bytes of working space.
@@ -201,7 +183,7 @@ fn lent(group: Group, command: u8, bytes: usize, number: u8, text: &[u8]) -> Gro
         0x10, 0x00, 0x0A, command, 0x00, 0x04, 0x00, 0x05, command, 0x00, 0x04, 0x00, 0x05,
         command, 0x00, 0x04, 0x00, 0x05, 0x7F,
     ];
-    with_case(group, is_replied_in(&tape, bytes, number, text))
+    group.with_case(is_replied_in(&tape, bytes, number, text))
 }
 
 // Rows that may be heard, and rows that must be, of which there is no plan.
@@ -224,7 +206,7 @@ fn working_space(group: Group) -> Group {
 
 // A tape that is not of the form.
 fn broken(group: Group, tape: &[u8]) -> Group {
-    with_case(group, is_replied(tape, 11, b"refused 11\n"))
+    group.with_case(is_replied(tape, 11, b"refused 11\n"))
 }
 
 // No byte; no STOP; a byte after STOP; a command of plan tapes; RUN without HOURS; ROUND with HOURS; an operand cut short; 3F and 46 for a row.
@@ -264,8 +246,8 @@ fn tape_byte(head: &[u8], rows: usize, i: usize) -> u8 {
 
 fn long_tape(head: &[u8], rows: usize) -> [u8; 405] {
     let mut tape = [0u8; 405];
-    for i in 0..405 {
-        tape[i] = tape_byte(head, rows, i);
+    for (i, byte) in tape.iter_mut().enumerate() {
+        *byte = tape_byte(head, rows, i);
     }
     tape
 }
@@ -273,7 +255,7 @@ fn long_tape(head: &[u8], rows: usize) -> [u8; 405] {
 // The reply to so many bytes of it.
 fn long(group: Group, head: &[u8], rows: usize, bytes: usize, number: u8, text: &[u8]) -> Group {
     let tape = long_tape(head, rows);
-    with_case(group, is_replied(first_bytes(&tape, bytes), number, text))
+    group.with_case(is_replied(first(&tape, bytes), number, text))
 }
 
 // Tapes of a round are of the form with 4 + 5 × rows bytes. With 64 rows the planner is asked, and finds no plan; up to 79 rows the reader gives 2;
@@ -302,7 +284,7 @@ fn long_runs(group: Group) -> Group {
 }
 
 pub fn all() -> Group {
-    let mut g = no_cases();
+    let mut g = Group::default();
     g = planned(g);
     g = one_receiver(g);
     g = all_day(g);

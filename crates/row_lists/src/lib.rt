@@ -1,7 +1,8 @@
-// Rows in lent lists of 64 places: a row stored at a place, and the rows after a place moved up or down one.
+// Rows in lent lists of 64 places: a row stored at a place, and the rows after a place moved up or down one. The three lists are lent one by one: as a struct within
+// the struct of `held_table` their callers' checks learn nothing of what is written.
 #![tactic(auto)]
 
-ghost use Rattle.std.specs.Prelude.{◌≡◌, ◌-◌, set};
+ghost use Rattle.std.specs.Prelude.{◌≡◌, ◌-◌, ◌<◌, ◌≤◌, length, set};
 ghost use Rattle.table.specs.Tables.{RowIn};
 ghost use Rattle.row_lists.specs.Moved.{moved_up, moved_down, RowAmong};
 
@@ -19,6 +20,24 @@ pub fn set_row(starts: &mut [u16], ends: &mut [u16], marks: &mut [u8], i: usize,
     marks[i] = row.mark;
 }
 
+// Of the first n entries moves those after entry k up one.
+fn move_later<T: Copy>(list: &mut [T], k: usize, n: usize)
+    requires below { k < n }
+    requires most { n ≤ length list.old }
+    ensures { list.new ≡ moved_up k n list.old }
+{
+    list.copy_within(k + 1..n, k);
+}
+
+// Of the first n entries moves those from entry k on down one.
+fn move_from<T: Copy>(list: &mut [T], k: usize, n: usize)
+    requires below { k ≤ n }
+    requires most { n < length list.old }
+    ensures { list.new ≡ moved_down k n list.old }
+{
+    list.copy_within(k..n, k + 1);
+}
+
 // Moves the rows after row k, of the first `rows`, up one.
 pub fn move_up(starts: &mut [u16], ends: &mut [u16], marks: &mut [u8], k: usize, rows: usize)
     requires { RowAmong k rows starts.old ends.old marks.old }
@@ -26,12 +45,9 @@ pub fn move_up(starts: &mut [u16], ends: &mut [u16], marks: &mut [u8], k: usize,
     ensures ends_after { ends.new ≡ moved_up k rows ends.old }
     ensures marks_after { marks.new ≡ moved_up k rows marks.old }
 {
-    let mut i = k;
-    while i + 1 < rows {
-        let next = table::row_at(starts, ends, marks, i + 1);
-        set_row(starts, ends, marks, i, next);
-        i += 1;
-    }
+    move_later(starts, k, rows);
+    move_later(ends, k, rows);
+    move_later(marks, k, rows);
 }
 
 // Moves row k and those after it, of the first `rows` - 1, down one.
@@ -41,10 +57,7 @@ pub fn move_down(starts: &mut [u16], ends: &mut [u16], marks: &mut [u8], k: usiz
     ensures ends_after { ends.new ≡ moved_down k (rows - 1) ends.old }
     ensures marks_after { marks.new ≡ moved_down k (rows - 1) marks.old }
 {
-    let mut i = rows - 1;
-    while k < i {
-        let before = table::row_at(starts, ends, marks, i - 1);
-        set_row(starts, ends, marks, i, before);
-        i -= 1;
-    }
+    move_from(starts, k, rows - 1);
+    move_from(ends, k, rows - 1);
+    move_from(marks, k, rows - 1);
 }

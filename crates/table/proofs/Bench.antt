@@ -7,9 +7,7 @@ use Rattle.window.specs.declared.Kind.TheVariants.{Round, Run}
 use Rattle.window.specs.declared.Row.{Row}
 use Rattle.window.specs.Rows.{row}
 use Rattle.window.specs.Hours.{hours_from, no_hours}
-use Rattle.refusals.specs.declared.Refusal.{Refusal}
-use Rattle.refusals.specs.declared.Refusal.TheVariants.{Accepted, Ticks, Hours, Gap, Window, Mark, NoPlan}
-use Rattle.refusals.specs.Refusals.{answered}
+use Rattle.refusals.specs.Refusals.{answered, Accepted, Ticks, Hours, Gap, Window, Mark, NoPlan, Outcome}
 use Rattle.table.specs.Tables.{setting_of, Table, table_of}
 use Rattle.table.specs.Planned.{Planned, answering, planned}
 
@@ -48,7 +46,7 @@ run_100 g = on Run 100 g (hours_from 0 100 0 100)
 plan : ℕ → List ℕ → Planned
 plan count labels = answering (answered Accepted count) labels
 
-refused : Refusal → List Row → Planned
+refused : Outcome → List Row → Planned
 refused r rows = answering (answered r 0) (nines rows)
 
 p2 : ℕ → ℕ → ℕ → List Row

@@ -8,10 +8,7 @@ use native.Mathlib.Omega.{arith}
 use borrow.Author.Tests.{ne_eqb, eqb-true, eqb-false, le-leb, lt-leb}
 use lib.ListN.{length}
 use Rattle.labels.specs.Labels.{heard}
-use Rattle.refusals.specs.declared.Refusal.{Refusal}
-use Rattle.refusals.specs.declared.Refusal.TheVariants.{Accepted, Space}
-use Rattle.refusals.specs.declared.Answer.{Answer}
-use Rattle.refusals.specs.Refusals.{number_of, answered, passes, ◌then◌}
+use Rattle.refusals.specs.Refusals.{number_of, answered, passes, ◌then◌, Accepted, Space, Answer, Outcome}
 use Rattle.refusals.proofs.Refusals.{Passed, then_first, then_next}
 use Rattle.table.specs.Tables.{Table, rows, Valid}
 use Rattle.table.specs.Checks.{lengths_refusal, table_looked}
@@ -39,7 +36,7 @@ refused_kept t before space = go (passes (checked t before space)) (best_plan t)
     go false o n = refl
 
 -- a refusal other than 8 leaves the working space
-pub space_kept : (r : Refusal) (space : List ℕ) → (number_of r ≡ 0 → ⊥) → Not8 r → space ≡ space_after r space
+pub space_kept : (r : Outcome) (space : List ℕ) → (number_of r ≡ 0 → ⊥) → Not8 r → space ≡ space_after r space
 unfolding space_after
 space_kept r space n h = rw (ne_eqb (number_of r) 0 n, ne_eqb (number_of r) 8 h.not) refl
 
@@ -103,7 +100,7 @@ planned_anyhow t before space space' a b =
 
 -- ---- the lists, then the working space, then the rest
 
-module _ (lists rest : Refusal) (space : ℕ) where
+module _ (lists rest : Outcome) (space : ℕ) where
   pub lists_first : (number_of lists ≡ 0 → ⊥) → lists ≡ (lists then space_refusal space then rest)
   lists_first n = then_first refl _ n
 

@@ -15,9 +15,7 @@ use Rattle.basics.specs.Lists.{without}
 use Rattle.basics.proofs.Lists.{length_without, past, at_without, past_earlier, past_later, past_most, past_apart}
 use Rattle.window.specs.declared.Row.{Row}
 use Rattle.window.specs.Rows.{row}
-use Rattle.refusals.specs.declared.Refusal.{Refusal}
-use Rattle.refusals.specs.declared.Refusal.TheVariants.{Accepted}
-use Rattle.refusals.specs.Refusals.{number_of, answered, passes, ◌then◌}
+use Rattle.refusals.specs.Refusals.{number_of, answered, passes, ◌then◌, Accepted, Outcome}
 use Rattle.refusals.proofs.Refusals.{Passed, passed_accepted, then_next, then_assoc, then_passes}
 use Rattle.table.specs.Tables.{Table, rows, row_at, Clash, Plan, ValidRow, Valid}
 use Rattle.table.specs.Checks.{lists_refusal, setting_refusal, row_refusal, looked, look_from, row_check, rows_looked, table_looked}
@@ -70,7 +68,7 @@ module _ (t : Table) (new : Row) where
         go i (inr q) = rw (row_before i q) (v.row i q)
 
 -- the rows before pass: the last of them is the one that is looked at
-look_last : (check : ℕ → Refusal) (i n : ℕ) → ((k : ℕ) → i ≤ k → k < i + n → Passed (check k)) → (look_from check i (suc n)).refusal ≡ check (i + n)
+look_last : (check : ℕ → Outcome) (i n : ℕ) → ((k : ℕ) → i ≤ k → k < i + n → Passed (check k)) → (look_from check i (suc n)).refusal ≡ check (i + n)
 unfolding look_from
 look_last check i zero f = go (passes (check i)) refl ∙ ap check (omega arith)
   where

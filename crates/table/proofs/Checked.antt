@@ -17,9 +17,7 @@ use Rattle.window.specs.declared.Row.{Row}
 use Rattle.window.specs.Windows.{is_window}
 use Rattle.window.specs.Gaps.{max_gap}
 use Rattle.window.proofs.Meaning.{window_iff}
-use Rattle.refusals.specs.declared.Refusal.{Refusal}
-use Rattle.refusals.specs.declared.Refusal.TheVariants.{Accepted, Lists, Rows, Space, Ticks, Hours, Gap, Window, Mark}
-use Rattle.refusals.specs.Refusals.{number_of, asked, passes, ◌then◌}
+use Rattle.refusals.specs.Refusals.{number_of, asked, passes, ◌then◌, Accepted, Lists, Rows, Space, Ticks, Hours, Gap, Window, Mark, Outcome}
 use Rattle.refusals.proofs.Refusals.{Passed, then_passed, asked_passed, then_either, asked_either}
 use Rattle.table.specs.declared.Setting.{Setting}
 use Rattle.table.specs.declared.Looked.{Looked}
@@ -43,7 +41,7 @@ pub lists_passed : (t : Table) (labels : List ℕ) → Passed (lists_refusal t l
 lists_passed t labels = lengths_passed (rows t) (length t.ends) (length t.marks) (length labels)
 
 -- a check r before the others, as `cond` has it
-pub then_looked : (r : Refusal) (n : ℕ) (rest : Looked) → Passed (cond (passes r) rest (looked r n)).refusal → Passed r × Passed rest.refusal
+pub then_looked : (r : Outcome) (n : ℕ) (rest : Looked) → Passed (cond (passes r) rest (looked r n)).refusal → Passed r × Passed rest.refusal
 then_looked r n rest = go (passes r) refl
   where
     go : (x : Bool) → passes r ≡ x → Passed (cond x rest (looked r n)).refusal → Passed r × Passed rest.refusal
@@ -51,12 +49,12 @@ then_looked r n rest = go (passes r) refl
     go false e p = absurd (eqb-false (number_of r) 0 e p)
 
 -- the rows from i on pass: row i, and those after it
-looked_more : (check : ℕ → Refusal) (i n : ℕ) → Passed (look_from check i (suc n)).refusal → Passed (check i) × Passed (look_from check (i + 1) n).refusal
+looked_more : (check : ℕ → Outcome) (i n : ℕ) → Passed (look_from check i (suc n)).refusal → Passed (check i) × Passed (look_from check (i + 1) n).refusal
 unfolding look_from
 looked_more check i n p = then_looked (check i) (i + 1) (look_from check (i + 1) n) p
 
 -- n of them, so all pass
-looked_passed : (check : ℕ → Refusal) (i n : ℕ) → Passed (look_from check i n).refusal → (k : ℕ) → i ≤ k → k < i + n → Passed (check k)
+looked_passed : (check : ℕ → Outcome) (i n : ℕ) → Passed (look_from check i n).refusal → (k : ℕ) → i ≤ k → k < i + n → Passed (check k)
 looked_passed check i zero p k h l = absurd (omega arith)
 looked_passed check i (suc n) p k h l =
     let f = looked_more check i n p in
@@ -64,7 +62,7 @@ looked_passed check i (suc n) p k h l =
     ⊎_elim (λ q. rw (← q) f.0) (λ q. rest (omega arith) (omega arith)) (eq-or-lt_of_le h)
 
 -- and as many were looked at
-all_looked : (check : ℕ → Refusal) (i n : ℕ) → Passed (look_from check i n).refusal → (look_from check i n).rows ≡ i + n
+all_looked : (check : ℕ → Outcome) (i n : ℕ) → Passed (look_from check i n).refusal → (look_from check i n).rows ≡ i + n
 unfolding look_from
 all_looked check i zero p = omega arith
 all_looked check i (suc n) p =
@@ -134,7 +132,7 @@ module _ (t : Table) where
 -- ---- what the checks of a table can give
 
 -- what holds of a table that passes, and of each refusal that its checks can give
-pub record OfChecks (P : Refusal → Type 0) : Type 0 where
+pub record OfChecks (P : Outcome → Type 0) : Type 0 where
   pub accepted : P Accepted
   pub lists : P Lists
   pub ticks : P Ticks
@@ -144,15 +142,15 @@ pub record OfChecks (P : Refusal → Type 0) : Type 0 where
   pub mark : P Mark
 
 -- holds of what they give
-module _ (P : Refusal → Type 0) (of : OfChecks P) where
-  asks : (x : Bool) {r : Refusal} → P r → P (asked x r)
+module _ (P : Outcome → Type 0) (of : OfChecks P) where
+  asks : (x : Bool) {r : Outcome} → P r → P (asked x r)
   asks x = asked_either P x of.accepted
 
   cond_looked : (x : Bool) (a b : Looked) → P a.refusal → P b.refusal → P (cond x a b).refusal
   cond_looked true a b f g = f
   cond_looked false a b f g = g
 
-  look_gives : (check : ℕ → Refusal) → ((i : ℕ) → P (check i)) → (i n : ℕ) → P (look_from check i n).refusal
+  look_gives : (check : ℕ → Outcome) → ((i : ℕ) → P (check i)) → (i n : ℕ) → P (look_from check i n).refusal
   unfolding look_from
   look_gives check h i zero = of.accepted
   look_gives check h i (suc n) = cond_looked (passes (check i)) _ _ (look_gives check h (i + 1) n) (h i)
@@ -183,14 +181,14 @@ module _ (P : Refusal → Type 0) (of : OfChecks P) where
 -- ---- no check before 8 gives 8, and none of the table's gives 3
 
 -- a refusal of another number
-pub record Not (n : ℕ) (r : Refusal) : Type 0 where
+pub record Not (n : ℕ) (r : Outcome) : Type 0 where
   pub not : number_of r ≢ n
 
-abbrev pub Not8 : Refusal → Type 0
+abbrev pub Not8 : Outcome → Type 0
 Not8 = Not 8
 
 -- the check refuses so, where it refuses
-pub asked_8 : (x : Bool) {r : Refusal} → Not8 r → Not8 (asked x r)
+pub asked_8 : (x : Bool) {r : Outcome} → Not8 r → Not8 (asked x r)
 asked_8 x = asked_either Not8 x (record { not = λ e. omega arith })
 
 -- no check of a table gives a number that is none of these

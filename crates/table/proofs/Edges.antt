@@ -9,16 +9,14 @@ use Rattle.window.specs.declared.Kind.TheVariants.{Round, Run}
 use Rattle.window.specs.declared.Row.{Row}
 use Rattle.window.specs.Rows.{row}
 use Rattle.window.specs.Hours.{hours_from, no_hours}
-use Rattle.refusals.specs.declared.Refusal.{Refusal}
-use Rattle.refusals.specs.declared.Refusal.TheVariants.{Accepted, Lists, Rows, Space, Ticks, Hours, Gap, Window, Mark, NoPlan}
-use Rattle.refusals.specs.Refusals.{answered}
+use Rattle.refusals.specs.Refusals.{answered, Accepted, Lists, Rows, Space, Ticks, Hours, Gap, Window, Mark, NoPlan, Outcome}
 use Rattle.table.specs.Tables.{setting_of, Table, table, table_of}
 use Rattle.table.specs.Checks.{looked, table_looked}
 use Rattle.table.specs.Planned.{answering, planned, space_after}
 use Rattle.table.specs.Former.{planned_before9}
 
 -- the call with these labels and so many bytes of working space is refused so, and its labels are untouched
-abbrev Refused : Refusal → Table → List ℕ → ℕ → Type 0
+abbrev Refused : Outcome → Table → List ℕ → ℕ → Type 0
 Refused r t before space = planned t before space ≡ answering (answered r 0) before
 
 -- the call is accepted, with this count and these labels

@@ -13,8 +13,7 @@ use Rattle.window.specs.declared.Row.{Row}
 use Rattle.window.specs.Windows.{Window}
 use Rattle.window.proofs.AllDay.{window_kept_3, overlap_kept_3}
 use Rattle.window.proofs.Gaps.{too_close_0}
-use Rattle.refusals.specs.declared.Refusal.TheVariants.{Accepted, Hours}
-use Rattle.refusals.specs.Refusals.{asked, ◌then◌}
+use Rattle.refusals.specs.Refusals.{asked, ◌then◌, Accepted, Hours}
 use Rattle.refusals.proofs.Refusals.{Passed}
 use Rattle.table.specs.declared.Setting.{Setting}
 use Rattle.table.specs.Tables.{Table, rows, row_at, Plan, Valid}

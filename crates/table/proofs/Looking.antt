@@ -4,25 +4,28 @@ use mathlib.Core.Path.{◌≡◌, refl, sym, subst}
 use native.Mathlib.Numerals.{add-one}
 use native.Mathlib.Omega.{arith}
 use lib.ListN.{length}
-use borrow.Author.Tests.{eq-eqb, ne_eqb}
-use Rattle.refusals.specs.declared.Refusal.{Refusal}
-use Rattle.refusals.specs.declared.Refusal.TheVariants.{Accepted, Lists}
-use Rattle.refusals.specs.Refusals.{number_of}
-use Rattle.table.specs.Tables.{Table, rows}
+use borrow.Author.Tests.{eq-eqb, ne_eqb, eqb-true}
+use Rattle.std.specs.Prelude.{true, false, List}
+use Rattle.refusals.specs.Refusals.{number_of, Accepted, Lists, Outcome}
+use Rattle.table.specs.Tables.{Table, rows, are_even, is_even, RowIn}
 use Rattle.table.specs.Checks.{looked, look_from, row_check, rows_looked}
+
+-- what the test of three lists says
+pub even_lists : (starts ends marks : List ℕ) → are_even starts ends marks ≡ true → (length ends ≡ length starts) × (length marks ≡ length starts)
+even_lists starts ends marks e = grind (arith, eqb-true)
+
+-- a row of lists that pass it
+pub row_in : (starts ends marks : List ℕ) (i : ℕ) → are_even starts ends marks ≡ true → i < length starts → RowIn starts ends marks i
+row_in starts ends marks i e h = let even = even_lists starts ends marks e in record { each_end = even.0; each_mark = even.1; below = h }
 
 module _ (t : Table) where
   -- the rows from i on are still to be looked at
   abbrev pub Ahead : ℕ → Type 0
   Ahead i = rows_looked t ≡ look_from (row_check t) i (rows t - i)
 
-  pub uneven_ends : (length t.ends ≡ rows t → ⊥) → looked Lists 0 ≡ rows_looked t
+  pub uneven : is_even t ≡ false → looked Lists 0 ≡ rows_looked t
   unfolding rows_looked
-  uneven_ends h = simp (ne_eqb (length t.ends) (rows t) h)
-
-  pub uneven_marks : length t.ends ≡ rows t → (length t.marks ≡ rows t → ⊥) → looked Lists 0 ≡ rows_looked t
-  unfolding rows_looked
-  uneven_marks e h = simp (eq-eqb (length t.ends) (rows t) e, ne_eqb (length t.marks) (rows t) h)
+  uneven e = rw e refl
 
   pub ahead_all : length t.ends ≡ rows t → length t.marks ≡ rows t → Ahead 0
   unfolding rows_looked
@@ -31,7 +34,7 @@ module _ (t : Table) where
   ahead_row : (i : ℕ) → i < rows t → (d : ℕ) × (rows t - i ≡ suc d) × (rows t - (i + 1) ≡ d)
   ahead_row i h = (rows t - (i + 1), omega arith, refl)
 
-  pub ahead_refused : (i : ℕ) (r : Refusal) → i < rows t → Ahead i → r ≡ row_check t i → (number_of r ≡ 0 → ⊥) → looked r (i + 1) ≡ rows_looked t
+  pub ahead_refused : (i : ℕ) (r : Outcome) → i < rows t → Ahead i → r ≡ row_check t i → (number_of r ≡ 0 → ⊥) → looked r (i + 1) ≡ rows_looked t
   unfolding look_from
   ahead_refused i r h a e n =
       let d = ahead_row i h in

@@ -15,16 +15,14 @@ use Rattle.window.specs.declared.Row.{Row}
 use Rattle.window.specs.Windows.{is_window}
 use Rattle.window.specs.Gaps.{max_gap}
 use Rattle.window.proofs.Meaning.{window_iff}
-use Rattle.refusals.specs.declared.Refusal.{Refusal}
-use Rattle.refusals.specs.declared.Refusal.TheVariants.{Lists, Rows, Ticks, Gap, Window, Mark}
-use Rattle.refusals.specs.Refusals.{number_of, asked, ◌then◌}
+use Rattle.refusals.specs.Refusals.{number_of, asked, ◌then◌, Lists, Rows, Ticks, Gap, Window, Mark, Outcome}
 use Rattle.refusals.proofs.Refusals.{Passed, asked_passes, then_passes}
 use Rattle.table.specs.declared.Setting.{Setting}
 use Rattle.table.specs.Tables.{Table, rows, row_at, ValidSetting, ValidRow, Valid}
 use Rattle.table.specs.Checks.{lengths_refusal, lists_refusal, ticks_refusal, hours_refusal, gap_refusal, setting_refusal, row_refusal, look_from, row_check, rows_looked, table_looked}
 
 -- the rows from i on, n of them
-look_passes : (check : ℕ → Refusal) (i n : ℕ) → ((k : ℕ) → i ≤ k → k < i + n → Passed (check k)) → Passed (look_from check i n).refusal
+look_passes : (check : ℕ → Outcome) (i n : ℕ) → ((k : ℕ) → i ≤ k → k < i + n → Passed (check k)) → Passed (look_from check i n).refusal
 unfolding look_from
 look_passes check i zero f = refl
 look_passes check i (suc n) f =

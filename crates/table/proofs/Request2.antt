@@ -11,8 +11,7 @@ use Rattle.marks.specs.Marks.{max_mark}
 use Rattle.window.specs.declared.Row.{Row}
 use Rattle.window.specs.Windows.{Window}
 use Rattle.window.proofs.Meaning.{window_iff}
-use Rattle.refusals.specs.declared.Refusal.TheVariants.{Mark}
-use Rattle.refusals.specs.Refusals.{number_of, asked}
+use Rattle.refusals.specs.Refusals.{number_of, asked, Mark}
 use Rattle.table.specs.declared.Setting.{Setting}
 use Rattle.table.specs.Tables.{Table, rows, row_at, Plan}
 use Rattle.table.specs.Checks.{row_refusal}

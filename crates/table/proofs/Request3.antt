@@ -16,8 +16,7 @@ use Rattle.window.specs.Rows.{row}
 use Rattle.window.specs.Hours.{no_hours}
 use Rattle.window.specs.Gaps.{overlap}
 use Rattle.window.proofs.AllDay.{all_day_overlaps, all_day_in_run}
-use Rattle.refusals.specs.declared.Refusal.TheVariants.{Accepted, Window, Mark, NoPlan}
-use Rattle.refusals.specs.Refusals.{number_of, answered, asked, ◌then◌}
+use Rattle.refusals.specs.Refusals.{number_of, answered, asked, ◌then◌, Accepted, Window, Mark, NoPlan}
 use Rattle.refusals.proofs.Refusals.{Passed}
 use Rattle.table.specs.declared.Setting.{Setting}
 use Rattle.table.specs.Tables.{setting_of, Table, table_of, rows, row_at, Allowed, Clash, Plan, Valid}

@@ -15,8 +15,7 @@ use Rattle.window.specs.Hours.{no_hours}
 use Rattle.window.specs.Windows.{walk, Covers}
 use Rattle.window.specs.Gaps.{max_gap}
 use Rattle.window.proofs.Gaps.{too_close_more, whole_gap, free_after}
-use Rattle.refusals.specs.declared.Refusal.TheVariants.{Accepted, Gap, NoPlan}
-use Rattle.refusals.specs.Refusals.{number_of, answered}
+use Rattle.refusals.specs.Refusals.{number_of, answered, Accepted, Gap, NoPlan}
 use Rattle.refusals.proofs.Refusals.{Passed, then_next}
 use Rattle.table.specs.Tables.{setting_of, Table, table, table_of, rows, row_at, Allowed, Clash, Plan, Valid}
 use Rattle.table.specs.Checks.{lists_refusal, ticks_refusal, hours_refusal, gap_refusal, setting_refusal, table_looked}

@@ -13,9 +13,7 @@ use lib.ListN.{length, drop, replicate, length-replicate, get_or-replicate, get_
 use lib.Seq.{drop-nil}
 use Rattle.basics.specs.Lists.{at}
 use Rattle.basics.proofs.Tests.{le_or_lt}
-use Rattle.refusals.specs.declared.Refusal.{Refusal}
-use Rattle.refusals.specs.declared.Refusal.TheVariants.{Accepted, Space, NoPlan}
-use Rattle.refusals.specs.Refusals.{number_of, answered, passes, ◌then◌}
+use Rattle.refusals.specs.Refusals.{number_of, answered, passes, ◌then◌, Accepted, Space, NoPlan, Outcome}
 use Rattle.refusals.proofs.Refusals.{Passed, then_passed, asked_passed}
 use Rattle.table.specs.Tables.{Table}
 use Rattle.table.specs.Checks.{lists_refusal, table_looked}
@@ -29,7 +27,7 @@ use Rattle.table.proofs.Calls.{planned_anyhow, space_next, rest_next}
 
 module _ (t : Table) (before : List ℕ) (space : ℕ) where
   -- what holds of a plan, of 8 and of what the checks give holds of what a call ends in
-  ends_in : (P : Refusal → Type 0) → P Accepted → P NoPlan → P (checked t before space) → P (planned t before space).answer.refusal
+  ends_in : (P : Outcome → Type 0) → P Accepted → P NoPlan → P (checked t before space) → P (planned t before space).answer.refusal
   unfolding planned given
   ends_in P accepted none-heard refused = go (passes (checked t before space)) (best_plan t)
     where
@@ -87,7 +85,7 @@ any_bytes t labels space space' e = (ap (λ n. (planned t labels n).answer) e, a
 -- ---- "only those bytes are cleared"
 
 -- what a call that ends in this leaves in the working space, byte for byte
-pub record Left (r : Refusal) (space after : List ℕ) : Type 0 where
+pub record Left (r : Outcome) (space after : List ℕ) : Type 0 where
   -- the first 4,608 after a plan and after 8,
   pub cleared : (number_of r ≡ 0) ⊎ (number_of r ≡ 8) → (i : ℕ) → i < 4608 → at after i ≡ 0
   -- none beyond them, those up to 16,383 included,
@@ -112,7 +110,7 @@ cleared_length zero space h = refl
 cleared_length (suc n) [] h = absurd (omega arith)
 cleared_length (suc n) (x ∷ space) h = ap suc (cleared_length n space (omega arith))
 
-pub clears : (r : Refusal) (space : List ℕ) → Left r space (space_after r space)
+pub clears : (r : Outcome) (space : List ℕ) → Left r space (space_after r space)
 unfolding space_after
 clears r space =
     record {

@@ -8,11 +8,9 @@ use native.Mathlib.Omega.{arith}
 use borrow.Author.Tests.{eq-eqb, ne_eqb}
 use Rattle.basics.specs.Lists.{at}
 use Rattle.marks.specs.Marks.{Must}
-use Rattle.refusals.specs.declared.Answer.{Answer}
 use Rattle.labels.specs.Labels.{Best}
 use Rattle.labels.proofs.Best.{Passes, first_best_iff, first_none, best_iff, assignment_iff}
-use Rattle.refusals.specs.declared.Refusal.TheVariants.{Accepted, NoPlan}
-use Rattle.refusals.specs.Refusals.{number_of, answered}
+use Rattle.refusals.specs.Refusals.{number_of, answered, Accepted, NoPlan, Answer}
 use Rattle.table.specs.Tables.{Table, rows, row_at, Allowed, Clash, Plan, Valid, is_plan}
 use Rattle.table.specs.Planned.{checked, best_plan, answering, given, planned, Demand3}
 use Rattle.table.proofs.Plans.{plan_iff}

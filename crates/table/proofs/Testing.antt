@@ -1,72 +1,14 @@
--- Laws of the test for a plan, as its code goes through it: a label's cases, one row more.
-use Prim.Native.Nat.{ℕ, zero, suc, ◌-◌, ◌≤◌, ◌<◌}
+-- Laws of the test for a plan, as its code goes through it: one row more.
+use Prim.Native.Nat.{ℕ, ◌<◌}
 use mathlib.Core.Path.{◌≡◌, refl, ◌∙◌, sym}
-use mathlib.Core.Bool.{Bool, true, false, not, and-false}
+use mathlib.Core.Bool.{Bool, true, false, and-false}
 use mathlib.Core.List.{List}
-use native.Mathlib.Omega.{arith}
-use native.Mathlib.Numerals.{sub-one}
-use lib.Dec.{leb}
 use lib.ListN.{length}
-use borrow.Author.Tests.{le-leb, lt-leb, eq-eqb, ne_eqb}
+use borrow.Author.Tests.{eq-eqb, ne_eqb}
 use Rattle.basics.specs.Lists.{at}
 use Rattle.basics.specs.Tests.{every}
 use Rattle.basics.proofs.Tests.{every_fails}
-use Rattle.marks.specs.Marks.{mark_allows}
-use Rattle.window.specs.declared.Kind.{Kind}
-use Rattle.window.specs.declared.Kind.TheVariants.{Round, Run}
-use Rattle.window.specs.declared.Row.{Row}
-use Rattle.window.specs.Hours.{hour}
-use Rattle.table.specs.declared.Setting.{Setting}
-use Rattle.table.specs.Tables.{Table, rows, row_at, is_open, is_allowed, clashes, is_apart, apart_at, is_fit, is_plan}
-
--- ---- one label
-
-module _ {hours hours' : List (List ℕ)} (same : hours ≡ hours') (row : Row) where
-  pub open_within : (label : ℕ) → 1 ≤ label → hour hours (label - 1) 0 ≤ row.start → leb row.end (hour hours (label - 1) 1) ≡ is_open Run hours' row label
-  open_within zero h l = absurd (omega arith)
-  open_within (suc r) h l = let m : hour hours r 0 ≤ row.start = rw sub-one at l in rw (← same) (rw (sub-one, le-leb (hour hours r 0) row.start m) refl)
-
-  pub open_outside : (label : ℕ) → 1 ≤ label → row.start < hour hours (label - 1) 0 → false ≡ is_open Run hours' row label
-  open_outside zero h l = absurd (omega arith)
-  open_outside (suc r) h l = let m : row.start < hour hours r 0 = rw sub-one at l in rw (← same) (rw (lt-leb (hour hours r 0) row.start m) refl)
-
-module _ (S : Setting) (row : Row) where
-  pub allowed_past : (label : ℕ) → 2 < label → false ≡ is_allowed S row label
-  unfolding is_allowed
-  allowed_past label h = simp (lt-leb label 2 h)
-
-  pub allowed_wrong : (label : ℕ) → label ≤ 2 → mark_allows row.mark label ≡ false → false ≡ is_allowed S row label
-  unfolding is_allowed
-  allowed_wrong label h e = rw (le-leb label 2 h, e) refl
-
-  module _ (label : ℕ) (e : mark_allows row.mark label ≡ true) where
-    pub allowed_heard : label ≤ 2 → is_open S.kind S.hours row label ≡ is_allowed S row label
-    unfolding is_allowed
-    allowed_heard h = rw (le-leb label 2 h, e) refl
-
-    pub allowed_none : label ≡ 0 → true ≡ is_allowed S row label
-    allowed_none z = open_none S.kind ∙ allowed_heard (omega arith)
-      where
-        open_none : (kind : Kind) → true ≡ is_open kind S.hours row label
-        open_none Round = refl
-        open_none Run = rw z refl
-
-  -- ---- two rows
-
-  module _ (label : ℕ) (row' : Row) (label' : ℕ) where
-    pub apart_unheard : label ≡ 0 → true ≡ is_apart S row label row' label'
-    unfolding is_apart
-    apart_unheard e = rw (eq-eqb label 0 e) refl
-
-    pub apart_receivers : (label ≡ 0 → ⊥) → (label ≡ label' → ⊥) → true ≡ is_apart S row label row' label'
-    unfolding is_apart
-    apart_receivers n m = rw (ne_eqb label 0 n, ne_eqb label label' m) refl
-
-    pub apart_windows : (label ≡ 0 → ⊥) → label ≡ label' → not (clashes S row row') ≡ is_apart S row label row' label'
-    unfolding is_apart
-    apart_windows n m = rw (ne_eqb label 0 n, eq-eqb label label' m) refl
-
--- ---- all rows
+use Rattle.table.specs.Tables.{Table, rows, row_at, is_even, is_allowed, apart_at, is_fit, is_plan}
 
 module _ (t : Table) (labels : List ℕ) where
   abbrev pub allowed_at : ℕ → Bool
@@ -75,13 +17,9 @@ module _ (t : Table) (labels : List ℕ) where
   abbrev pub apart_before : ℕ → Bool
   apart_before i = every i (apart_at t labels i)
 
-  pub not_even_ends : (length t.ends ≡ rows t → ⊥) → false ≡ is_plan t labels
+  pub uneven_plan : is_even t ≡ false → false ≡ is_plan t labels
   unfolding is_plan
-  not_even_ends h = simp (ne_eqb (length t.ends) (rows t) h)
-
-  pub not_even_marks : length t.ends ≡ rows t → (length t.marks ≡ rows t → ⊥) → false ≡ is_plan t labels
-  unfolding is_plan
-  not_even_marks e h = simp (eq-eqb (length t.ends) (rows t) e, ne_eqb (length t.marks) (rows t) h)
+  uneven_plan e = rw e refl
 
   module _ (e : length t.ends ≡ rows t) (m : length t.marks ≡ rows t) where
     pub not_even_labels : (length labels ≡ rows t → ⊥) → false ≡ is_plan t labels

@@ -8,22 +8,20 @@ use Rattle.window.specs.declared.Row.{Row}
 use Rattle.window.specs.Hours.{hour}
 use Rattle.window.specs.Windows.{is_window}
 use Rattle.window.specs.Gaps.{max_gap}
-use Rattle.refusals.specs.declared.Refusal.{Refusal}
-use Rattle.refusals.specs.declared.Refusal.TheVariants.{Accepted, Lists, Rows, Ticks, Hours, Gap, Window, Mark}
-use Rattle.refusals.specs.Refusals.{asked, passes, ◌then◌}
+use Rattle.refusals.specs.Refusals.{asked, passes, ◌then◌, Accepted, Lists, Rows, Ticks, Hours, Gap, Window, Mark, Outcome}
 use Rattle.table.specs.declared.Setting.{Setting}
 use Rattle.table.specs.declared.Looked.{Looked}
 use Rattle.table.specs.Tables.{Table, rows, row_at, is_even}
 
 -- "1: lent table lists, labels included, differ in length"; "2: more than 64 rows": by the lengths of starts, ends, marks and labels
-unfoldable pub lengths_refusal : ℕ → ℕ → ℕ → ℕ → Refusal
+unfoldable pub lengths_refusal : ℕ → ℕ → ℕ → ℕ → Outcome
 lengths_refusal starts ends marks labels = asked (eqb ends starts && eqb marks starts && eqb labels starts) Lists then asked (leb starts max_rows) Rows
 
-abbrev pub lists_refusal : Table → List ℕ → Refusal
+abbrev pub lists_refusal : Table → List ℕ → Outcome
 lists_refusal t labels = lengths_refusal (rows t) (length t.ends) (length t.marks) (length labels)
 
 -- "4: R outside 2 to 43,200"
-unfoldable pub ticks_refusal : ℕ → Refusal
+unfoldable pub ticks_refusal : ℕ → Outcome
 ticks_refusal R = asked (leb 2 R && leb R 43200) Ticks
 
 -- "with p at most q and q at most R"
@@ -31,33 +29,33 @@ abbrev pub is_hours : List (List ℕ) → ℕ → ℕ → Bool
 is_hours hours R r = leb (hour hours r 0) (hour hours r 1) && leb (hour hours r 1) R
 
 -- "5: open hours wrong (run only)"
-unfoldable pub hours_refusal : Kind → ℕ → List (List ℕ) → Refusal
+unfoldable pub hours_refusal : Kind → ℕ → List (List ℕ) → Outcome
 hours_refusal Round R hours = Accepted
 hours_refusal Run R hours = asked (is_hours hours R 0 && is_hours hours R 1) Hours
 
 -- "14, g above 600" (request 4 of paper 02)
-unfoldable pub gap_refusal : ℕ → Refusal
+unfoldable pub gap_refusal : ℕ → Outcome
 gap_refusal g = asked (leb g max_gap) Gap
 
 -- checks 4 and 5, and 14 "looked at after 5"
-unfoldable pub setting_refusal : Setting → Refusal
+unfoldable pub setting_refusal : Setting → Outcome
 unfolding ticks_refusal hours_refusal gap_refusal
 setting_refusal S = ticks_refusal S.ticks then hours_refusal S.kind S.ticks S.hours then gap_refusal S.gap
 
 -- "6: a window breaks the rules above", "Refusal 7 now begins at mark 6" (request 2 of paper 02): one row, "for 6 and then 7"
-unfoldable pub row_refusal : Setting → Row → Refusal
+unfoldable pub row_refusal : Setting → Row → Outcome
 row_refusal S row = asked (is_window S.kind S.ticks row.start row.end) Window then asked (leb row.mark max_mark) Mark
 
-abbrev pub looked : Refusal → ℕ → Looked
+abbrev pub looked : Outcome → ℕ → Looked
 looked r n = record { refusal = r; rows = n }
 
 -- "rows from 0": the first refusal among n rows from row i on, and how many rows were looked at
-unfoldable pub look_from : (ℕ → Refusal) → ℕ → ℕ → Looked
+unfoldable pub look_from : (ℕ → Outcome) → ℕ → ℕ → Looked
 look_from check i zero = looked Accepted i
 look_from check i (suc n) = cond (passes (check i)) (look_from check (i + 1) n) (looked (check i) (i + 1))
 
 -- the check of row i
-abbrev pub row_check : Table → ℕ → Refusal
+abbrev pub row_check : Table → ℕ → Outcome
 row_check t i = row_refusal t.setting (row_at t i)
 
 -- rows 0, 1, 2, ..; lists of unequal length are refused 1 before any row is looked at

@@ -10,9 +10,7 @@ use Rattle.window.specs.Hours.{hour}
 use Rattle.window.specs.Windows.{Overlap}
 use Rattle.window.specs.Former.{OverlapBefore3, is_window_before3}
 use Rattle.marks.specs.Marks.{max_mark}
-use Rattle.refusals.specs.declared.Refusal.{Refusal}
-use Rattle.refusals.specs.declared.Refusal.TheVariants.{Space, Window, Mark}
-use Rattle.refusals.specs.Refusals.{answered, asked, passes, ◌then◌}
+use Rattle.refusals.specs.Refusals.{answered, asked, passes, ◌then◌, Space, Window, Mark, Outcome}
 use Rattle.table.specs.declared.Setting.{Setting}
 use Rattle.table.specs.Tables.{Table, rows, row_at, Allowed}
 use Rattle.table.specs.Checks.{lengths_refusal, lists_refusal, ticks_refusal, hours_refusal, table_looked}
@@ -30,11 +28,11 @@ abbrev pub space_bytes_before9 : ℕ
 space_bytes_before9 = 16384
 
 -- "3: working space shorter than 16,384 bytes"
-unfoldable pub space_refusal_before9 : ℕ → Refusal
+unfoldable pub space_refusal_before9 : ℕ → Outcome
 space_refusal_before9 n = asked (leb space_bytes_before9 n) Space
 
 -- "Planner's order: 1, 2, 3, 4, 5, then rows from 0, each for 6 and then 7", with 14 "after 5": request 9 replaced check 3 alone
-unfoldable pub checked_before9 : Table → List ℕ → ℕ → Refusal
+unfoldable pub checked_before9 : Table → List ℕ → ℕ → Outcome
 unfolding lengths_refusal space_refusal_before9 table_looked
 checked_before9 t labels space = lists_refusal t labels then space_refusal_before9 space then (table_looked t).refusal
 
@@ -57,7 +55,7 @@ abbrev pub PlanBefore4 : Table → List ℕ → Type 0
 PlanBefore4 t = Assignment (rows t) (λ i. Allowed t.setting (row_at t i)) (λ i j. ClashBefore4 t.setting (row_at t i) (row_at t j))
 
 -- checks 4 and 5
-unfoldable pub setting_refusal_before4 : Setting → Refusal
+unfoldable pub setting_refusal_before4 : Setting → Outcome
 unfolding ticks_refusal hours_refusal
 setting_refusal_before4 S = ticks_refusal S.ticks then hours_refusal S.kind S.ticks S.hours
 
@@ -76,7 +74,7 @@ abbrev pub PlanBefore3 : Table → List ℕ → Type 0
 PlanBefore3 t = Assignment (rows t) (λ i. Allowed t.setting (row_at t i)) (λ i j. ClashBefore3 t.setting (row_at t i) (row_at t j))
 
 -- "6: a window breaks the rules above", "Refusal 7 now begins at mark 6" (request 2 of paper 02): one row, "for 6 and then 7"
-unfoldable pub row_refusal_before3 : Setting → Row → Refusal
+unfoldable pub row_refusal_before3 : Setting → Row → Outcome
 row_refusal_before3 S row = asked (is_window_before3 S.kind S.ticks row.start row.end) Window then asked (leb row.mark max_mark) Mark
 
 -- tables without beacons that send all day
@@ -102,7 +100,7 @@ abbrev pub PlanBefore2 : Table → List ℕ → Type 0
 PlanBefore2 t = Assignment (rows t) (λ i. AllowedBefore2 t.setting (row_at t i)) (λ i j. ClashBefore3 t.setting (row_at t i) (row_at t j))
 
 -- "6: a window breaks the rules above", "7: a mark above 1": one row, "for 6 and then 7"
-unfoldable pub row_refusal_before2 : Setting → Row → Refusal
+unfoldable pub row_refusal_before2 : Setting → Row → Outcome
 row_refusal_before2 S row = asked (is_window_before3 S.kind S.ticks row.start row.end) Window then asked (leb row.mark 1) Mark
 
 -- "Tables with only 0 and 1"

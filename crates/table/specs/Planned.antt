@@ -2,10 +2,7 @@
 use Rattle.std.specs.Prelude.{ℕ, ◌≡◌, ◌↔◌, cond, ◌||◌, List, [], ◌++◌, leb, eqb, length, drop, replicate}
 use Rattle.std.proofs.Math.Option.{Option, none, some}
 use Rattle.labels.specs.Labels.{heard, Best, first_best}
-use Rattle.refusals.specs.declared.Refusal.{Refusal}
-use Rattle.refusals.specs.declared.Refusal.TheVariants.{Accepted, Space, NoPlan}
-use Rattle.refusals.specs.declared.Answer.{Answer}
-use Rattle.refusals.specs.Refusals.{number_of, answered, asked, passes, ◌then◌}
+use Rattle.refusals.specs.Refusals.{number_of, answered, asked, passes, ◌then◌, Accepted, Space, NoPlan, Answer, Outcome}
 use Rattle.table.specs.Tables.{Table, rows, Plan, is_plan}
 use Rattle.table.specs.Checks.{lengths_refusal, lists_refusal, table_looked}
 
@@ -14,11 +11,11 @@ abbrev pub space_bytes : ℕ
 space_bytes = 4608
 
 -- "refusal 3 now begins below 4,608" (request 9 of paper 02)
-unfoldable pub space_refusal : ℕ → Refusal
+unfoldable pub space_refusal : ℕ → Outcome
 space_refusal n = asked (leb space_bytes n) Space
 
 -- "Planner's order: 1, 2, 3, 4, 5, then rows from 0, each for 6 and then 7", with 14 "after 5"
-unfoldable pub checked : Table → List ℕ → ℕ → Refusal
+unfoldable pub checked : Table → List ℕ → ℕ → Outcome
 unfolding lengths_refusal space_refusal table_looked
 checked t labels space = lists_refusal t labels then space_refusal space then (table_looked t).refusal
 
@@ -42,7 +39,7 @@ given none before = answering (answered NoPlan 0) before
 given (some plan) before = answering (answered Accepted (heard plan)) plan
 
 -- what planning a table that passes its checks ends in: accepted, or "8: no plan exists"
-abbrev pub plan_refusal : Table → Refusal
+abbrev pub plan_refusal : Table → Outcome
 plan_refusal t = (given (best_plan t) []).answer.refusal
 
 -- The planner's answer for a table, a label list that held `before`, and working space of so many bytes. "The first that applies is reported, with count 0. Outputs .. are untouched."
@@ -54,7 +51,7 @@ planned t before space =
     (answering (answered (checked t before space) 0) before)
 
 -- What the working space holds after a call with this refusal: an accepted call "clears to zero the first" bytes of it, "Bytes beyond are untouched", "8 clears the same", and otherwise it is untouched; "only those bytes are cleared", the 4,608 (request 9 of paper 02).
-unfoldable pub space_after : Refusal → List ℕ → List ℕ
+unfoldable pub space_after : Outcome → List ℕ → List ℕ
 space_after r space = cond (passes r || eqb (number_of r) 8) (replicate space_bytes 0 ++ drop space_bytes space) space
 
 -- what a call gives, whole: its answer, and what the label list and the working space then hold

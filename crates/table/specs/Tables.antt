@@ -13,6 +13,7 @@ use Rattle.window.specs.Hours.{hour}
 use Rattle.window.specs.Windows.{Window}
 use Rattle.window.specs.Gaps.{max_gap, TooClose, too_close}
 use Rattle.table.specs.declared.Setting.{Setting}
+use Rattle.table.specs.declared.Table.{Table as Lent}
 
 -- ---- what is lent
 
@@ -29,6 +30,10 @@ pub record Table : Type 0 where
 
 abbrev pub table : Setting → List ℕ → List ℕ → List ℕ → Table
 table S starts ends marks = record { setting = S; starts = starts; ends = ends; marks = marks }
+
+-- the table that code is lent
+abbrev pub lent : Lent → Table
+lent t = table t.setting t.rows.starts.now t.rows.ends.now t.rows.marks.now
 
 -- the table of these rows
 abbrev pub table_of : Setting → List Row → Table
@@ -117,9 +122,13 @@ unfoldable pub is_fit : Table → List ℕ → ℕ → Bool
 unfolding every is_allowed is_apart
 is_fit t labels i = is_allowed t.setting (row_at t i) (at labels i) && every i (apart_at t labels i)
 
--- the table's three lists are equally long
+-- three lists are equally long
+abbrev pub are_even : List ℕ → List ℕ → List ℕ → Bool
+are_even starts ends marks = eqb (length ends) (length starts) && eqb (length marks) (length starts)
+
+-- the table's three lists are
 abbrev pub is_even : Table → Bool
-is_even t = eqb (length t.ends) (rows t) && eqb (length t.marks) (rows t)
+is_even t = are_even t.starts t.ends t.marks
 
 unfoldable pub is_plan : Table → List ℕ → Bool
 unfolding every is_fit

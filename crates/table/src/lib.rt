@@ -1,10 +1,10 @@
 // Tables of windows: the setting, rows, the checks of a table, and the test whether labels are a plan.
 #![tactic(auto)]
 
-ghost use Rattle.std.specs.Prelude.{◌≡◌};
+ghost use Rattle.std.specs.Prelude.{◌≡◌, length};
 ghost use Rattle.window.specs.declared.Kind.TheVariants.{Round};
 ghost use Rattle.window.specs.Hours.{no_hours};
-ghost use Rattle.table.specs.Tables.{setting_of, row_of, RowIn};
+ghost use Rattle.table.specs.Tables.{setting_of, row_of, RowIn, are_even};
 
 use refusals::Refusal;
 use window::{Kind, Row};
@@ -21,47 +21,66 @@ pub struct Setting {
     pub hours: [[u16; 2]; 2],
 }
 
-// What the checks of the rows report: the first refusal, and how many rows were looked at.
+// What the checks of the rows report: whether the table passes, and how many rows were looked at.
 #[derive(Clone, Copy)]
 pub struct Looked {
-    pub refusal: Refusal,
+    pub refusal: Result<(), Refusal>,
     pub rows: usize,
 }
 
-// Makes a setting. Its field of arrays is written here and read in `hours_in`, and nowhere else: these two are proved by a walk of their code.
-pub fn setting_of(kind: Kind, ticks: u16, gap: u16, hours: [[u16; 2]; 2]) -> Setting
-    ensures { result ≡ setting_of kind ticks gap hours }
-{
-    Setting {
-        kind,
-        ticks,
-        gap,
-        hours,
+impl Setting {
+    // A round with a gap, in which hours are neither checked nor used.
+    pub fn round(ticks: u16, gap: u16) -> Setting
+        ensures { result ≡ setting_of Round ticks gap no_hours }
+    {
+        Setting {
+            kind: Kind::Round,
+            ticks,
+            gap,
+            hours: [[0, 0], [0, 0]],
+        }
     }
 }
 
-// The setting of a round with a gap, in which hours are neither checked nor used.
-pub fn round_setting(ticks: u16, gap: u16) -> Setting
-    ensures { result ≡ setting_of Round ticks gap no_hours }
-{
-    setting_of(Kind::Round, ticks, gap, [[0, 0], [0, 0]])
+// "The table is lent as three lists, starts, ends and marks".
+#[derive(Clone, Copy)]
+pub struct Rows<'a> {
+    pub starts: &'a [u16],
+    pub ends: &'a [u16],
+    pub marks: &'a [u8],
 }
 
-// The receivers' open hours.
-pub fn hours_in(setting: Setting) -> [[u16; 2]; 2]
-    ensures { result ≡ setting.hours }
-{
-    setting.hours
+// A table as it is lent.
+#[derive(Clone, Copy)]
+pub struct Table<'a> {
+    pub setting: Setting,
+    pub rows: Rows<'a>,
 }
 
-// Row i of a table.
-pub fn row_at(starts: &[u16], ends: &[u16], marks: &[u8], i: usize) -> Row
-    requires { RowIn starts.now ends.now marks.now i }
-    ensures { result ≡ row_of starts.now ends.now marks.now i }
-{
-    Row {
-        start: starts[i],
-        end: ends[i],
-        mark: marks[i],
+impl<'a> Rows<'a> {
+    // How many rows there are.
+    pub fn len(self) -> usize
+        ensures { result ≡ length self.entry.starts.now }
+    {
+        self.starts.len()
+    }
+
+    // Whether the three lists are equally long.
+    pub fn is_even(self) -> bool
+        ensures { result ≡ are_even self.entry.starts.now self.entry.ends.now self.entry.marks.now }
+    {
+        self.ends.len() == self.starts.len() && self.marks.len() == self.starts.len()
+    }
+
+    // Row i.
+    pub fn row(self, i: usize) -> Row
+        requires { RowIn self.starts.now self.ends.now self.marks.now i }
+        ensures { result ≡ row_of self.entry.starts.now self.entry.ends.now self.entry.marks.now i }
+    {
+        Row {
+            start: self.starts[i],
+            end: self.ends[i],
+            mark: self.marks[i],
+        }
     }
 }

@@ -49,51 +49,48 @@ const OPERAND_BYTES: [u8; 128] = [
 ];
 
 // How many bytes of operands follow a command.
+#[tactic(auto, using(crate::proofs::Widths::widths_right, crate::proofs::Widths::no_operands))]
 pub fn operand_bytes(command: u8) -> usize
     ensures { result ≡ operand_bytes command }
 {
-    if 127 < command {
-        return 0;
+    if command < 128 {
+        usize::from(OPERAND_BYTES[usize::from(command)])
+    } else {
+        0
     }
-    let i = command as usize;
-    OPERAND_BYTES[i] as usize
 }
 
 // The first byte of a 16-bit operand.
 pub fn high_byte(n: u16) -> u8
     ensures { result ≡ high_byte n }
 {
-    (n / 256) as u8
+    n.to_be_bytes()[0]
 }
 
 // The second byte of a 16-bit operand.
 pub fn low_byte(n: u16) -> u8
     ensures { result ≡ low_byte n }
 {
-    (n % 256) as u8
+    n.to_be_bytes()[1]
 }
 
 // The 16-bit operand of two bytes.
 pub fn join_bytes(high: u8, low: u8) -> u16
     ensures { result ≡ joined high low }
 {
-    (high as u16) * 256 + (low as u16)
+    u16::from_be_bytes([high, low])
 }
 
 // Whether a command stands at a place, and all bytes of its operands follow.
+#[tactic(auto, using(crate::proofs::Heads::fits_at, crate::proofs::Heads::short_at))]
 pub fn begins(tape: &[u8], at: usize, command: u8) -> bool
     ensures { result ≡ begins command (drop at tape.now) }
 {
-    if tape.len() <= at {
-        return false;
-    }
-    if tape.len() - at <= operand_bytes(command) {
-        return false;
-    }
-    tape[at] == command
+    at < tape.len() && operand_bytes(command) < tape.len() - at && tape[at] == command
 }
 
 // The place after a command that stands at a place with its operands.
+#[tactic(auto, using(crate::proofs::Heads::begins_at))]
 pub fn past(tape: &[u8], at: usize, command: u8) -> usize
     requires { begins command (drop at tape.now) ≡ true }
     ensures { result ≡ past command at }
@@ -110,11 +107,9 @@ pub fn word_at(tape: &[u8], at: usize) -> u16
 }
 
 // Whether STOP stands at a place and is the last byte.
+#[tactic(auto, using(crate::proofs::Heads::begins_at))]
 pub fn is_stop_at(tape: &[u8], at: usize) -> bool
     ensures { result ≡ stop_last (drop at tape.now) }
 {
-    if begins(tape, at, STOP) {
-        return tape.len() - at == 1;
-    }
-    false
+    begins(tape, at, STOP) && tape.len() - at == 1
 }

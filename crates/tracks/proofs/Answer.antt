@@ -1,18 +1,19 @@
 -- From the oracle's answers about rows in order to the best assignment of the arcs as they came.
-use Prim.Native.Nat.{ℕ, ◌-◌, ◌≤◌, ◌<◌}
+use Prim.Native.Nat.{ℕ, ◌≤◌, ◌<◌}
 use mathlib.Core.Path.{◌≡◌, refl, sym, ap, ◌∙◌}
-use mathlib.Core.Bool.{true, false, false≢true}
+use mathlib.Core.Logic.{◌⊎◌, ⊎_elim}
+use mathlib.Core.Bool.{Bool, true, false, false≢true}
 use mathlib.Core.List.{List}
 use native.Mathlib.Omega.{arith}
-use lib.ListN.{length, drop, take, length-drop}
-use lib.Seq.{drop-drop, take_all}
+use lib.ListN.{length, drop}
+use lib.Seq.{drop-drop}
 use Rattle.line.specs.Cells.{cell_bytes, core_bytes}
 use Rattle.basics.specs.Lists.{at}
 use Rattle.labels.proofs.Heard.{heard_le}
 use Rattle.arcs.specs.Arcs.{Arcs, Meet, Assigned}
 use Rattle.arcs.specs.Order.{Arranged}
 use Rattle.pairs.specs.Capped.{Capped}
-use Rattle.tracks.specs.Tracks.{Most, Solved}
+use Rattle.tracks.specs.Tracks.{Most, Answered, Solved}
 use Rattle.tracks.specs.Narrowing.{Ordered, Narrowed}
 use Rattle.tracks.proofs.Alike.{capped_alike, capped_most}
 use Rattle.tracks.proofs.Arranged.{arranged_alike}
@@ -23,16 +24,12 @@ module _ {C : ℕ} {ss ls ps es order : List ℕ} {m cap r : ℕ} (A : Arcs C ss
   most : Most (Assigned C ss ls perms) r
   most = capped_most (omega arith) (λ l a. omega (arith, heard_le l, a.each, A.few, over)) (capped_alike (arranged_alike A R perms each) K)
 
-  pub solved_count : Solved (Assigned C ss ls perms) false r perms perms
-  solved_count = record { most = most; answered = λ e. absurd (false≢true e); kept = λ e. refl }
-
-  pub solved_none : {perms' : List ℕ} → r ≡ 0 → Solved (Assigned C ss ls perms) true r perms perms'
-  solved_none e =
-      record {
-        most = most;
-        answered = λ q. record { none = λ h l a. omega (arith, most.bound l a); found = λ h. absurd (omega arith); count = λ h. absurd (omega arith) };
-        kept = λ q. absurd (false≢true (sym q));
-      }
+  -- the permissions stay where narrowing is not asked for or no list is in the class
+  pub solved_kept : {narrowing : Bool} → ((narrowing ≡ true) × (r ≤ 0)) ⊎ (narrowing ≡ false) → Solved (Assigned C ss ls perms) narrowing r perms perms
+  solved_kept h = record { most = most; answered = λ q. ⊎_elim (λ p. none p.1) (λ e. absurd (false≢true (sym e ∙ q))) h; kept = λ q. refl }
+    where
+      none : r ≤ 0 → Answered (Assigned C ss ls perms) r perms
+      none z = record { none = λ e l a. omega (arith, most.bound l a); found = λ g. absurd (omega arith); count = λ g. absurd (omega arith) }
 
   pub solved_narrowed : {perms' : List ℕ} → 0 < r → Narrowed (Ordered ps es order) r perms (length perms) perms' → Solved (Assigned C ss ls perms) true r perms perms'
   solved_narrowed h N =
@@ -45,11 +42,3 @@ module _ {C : ℕ} {ss ls ps es order : List ℕ} {m cap r : ℕ} (A : Arcs C ss
 -- what stands behind 4,225 bytes stands behind 4,608
 pub frame_wider : (space space' : List ℕ) → drop cell_bytes space' ≡ drop cell_bytes space → drop core_bytes space' ≡ drop core_bytes space
 frame_wider space space' e = sym (drop-drop 383 cell_bytes space') ∙ ap (drop 383) e ∙ drop-drop 383 cell_bytes space
-
--- a part from k to the end
-pub take_drop : (k : ℕ) (l : List ℕ) → take (length l - k) (drop k l) ≡ drop k l
-take_drop k l = take_all (length l - k) (drop k l) (omega (arith, length-drop k l))
-
--- what `set_lows` asks of the rows behind the first m
-pub suffixes : (m : ℕ) (a b : List ℕ) → length b ≡ length a → length a ≤ 64 → (length (take (length a - m) (drop m a)) ≤ 64) × (length (take (length b - m) (drop m b)) ≡ length (take (length a - m) (drop m a)))
-suffixes m a b e h = rw (take_drop m a, take_drop m b) (omega (arith, length-drop m a, length-drop m b))

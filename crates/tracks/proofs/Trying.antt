@@ -1,9 +1,10 @@
 -- What trying a label for a row shows, and what the labels tried say of the label chosen.
-use Prim.Native.Nat.{ℕ, zero, suc, ◌≤◌, ◌<◌}
-use mathlib.Core.Path.{◌≡◌, refl, sym, ◌∙◌}
-use mathlib.Core.Logic.{inl, inr}
-use mathlib.Core.Bool.{Bool, true, false, false≢true}
+use Prim.Native.Nat.{ℕ, zero, suc, ◌+◌, ◌≤◌, ◌<◌}
+use mathlib.Core.Path.{◌≡◌, refl, ◌∙◌}
+use mathlib.Core.Logic.{inl, inr, ⊎_elim}
+use mathlib.Core.Bool.{Bool, true, false}
 use mathlib.Core.List.{List}
+use native.Mathlib.Nat.{eq-or-lt_of_le}
 use native.Mathlib.Omega.{arith}
 use lib.Dec.{eqb}
 use lib.ListN.{length, set, drop}
@@ -14,7 +15,7 @@ use Rattle.labels.specs.Labels.{place}
 use Rattle.labels.specs.Permission.{permits, only}
 use Rattle.pairs.specs.Capped.{Capped, Ready}
 use Rattle.pairs.proofs.Trials.{ready_again}
-use Rattle.tracks.specs.Narrowing.{CannotHave, CanHave, Chosen, Tried, RowReady}
+use Rattle.tracks.specs.Narrowing.{CannotHave, Chosen, Tried, RowReady}
 
 -- no label comes after 0
 pub none_later : (p y : ℕ) → place 0 < place y → permits p y ≡ false
@@ -32,21 +33,7 @@ later_2 p (suc zero) e h = absurd (omega arith)
 later_2 p (suc (suc zero)) e h = absurd (omega arith)
 later_2 p (suc (suc (suc y))) e h = refl
 
--- 0 and 2 come after 1
-pub later_1 : (p y : ℕ) → permits p 0 ≡ false → permits p 2 ≡ false → place 1 < place y → permits p y ≡ false
-unfolding place
-later_1 p zero e f h = e
-later_1 p (suc zero) e f h = absurd (omega arith)
-later_1 p (suc (suc zero)) e f h = f
-later_1 p (suc (suc (suc y))) e f h = refl
-
 module _ {A : List ℕ → List ℕ → Type 0} {cap : ℕ} {perms : List ℕ} {i p x : ℕ} where
-  pub tried_barred : permits p x ≡ false → Tried A cap perms i p x perms false
-  tried_barred e = record { others = λ q. refl; yes = λ h. absurd (false≢true h); no = λ h. inl e }
-
-  pub tried_last : ((y : ℕ) → place x < place y → permits p y ≡ false) → Tried A cap perms i p x (set perms i (only x)) true
-  tried_last f = record { others = λ q. set-set perms i (only x) q; yes = λ h. (refl, inl f); no = λ h. absurd (false≢true (sym h)) }
-
   pub tried_asked : {r : ℕ} → permits p x ≡ true → Capped cap (A (set perms i (only x))) r → Tried A cap perms i p x (set perms i (only x)) (eqb r cap)
   tried_asked {r} e K =
       record {
@@ -58,47 +45,54 @@ module _ {A : List ℕ → List ℕ → Type 0} {cap : ℕ} {perms : List ℕ} {
       below : (r ≡ cap → ⊥) → r < cap
       below f = omega (arith, K.within)
 
--- 1 comes before 2
-before_2 : (P : ℕ → Type 0) → P 1 → (y : ℕ) → place y < place 2 → P y
+-- ---- the labels before x are tried in vain, from 1 on
+
+-- Row i cannot have them; its permission is open, the others are as they were, and so are the low rows in the space.
+pub record Passed (A : List ℕ → List ℕ → Type 0) (cap : ℕ) (perms : List ℕ) (i p x : ℕ) (perms' space₀ space : List ℕ) : Type 0 where
+  pub others : (q : ℕ) → set perms' i q ≡ set perms i q
+  pub cannot : (y : ℕ) → 1 ≤ y → y < x → CannotHave A cap perms i p y
+  pub frame : drop cell_bytes space ≡ drop cell_bytes space₀
+
+-- a label before 1 or 2 is a lower receiver, and one before 0 is a receiver
+before : (x y : ℕ) → 1 ≤ x → x ≤ 2 → place y < place x → (1 ≤ y) × (y < x)
 unfolding place
-before_2 P f zero h = absurd (omega arith)
-before_2 P f (suc zero) h = f
-before_2 P f (suc (suc zero)) h = absurd (omega arith)
-before_2 P f (suc (suc (suc y))) h = absurd (omega arith)
+before zero y a b h = elim a [ ]
+before (suc zero) y a b h = absurd (omega arith)
+before (suc (suc zero)) zero a b h = absurd (omega arith)
+before (suc (suc zero)) (suc zero) a b h = omega arith
+before (suc (suc zero)) (suc (suc zero)) a b h = absurd (omega arith)
+before (suc (suc zero)) (suc (suc (suc y))) a b h = absurd (omega arith)
+before (suc (suc (suc x))) y a b h = absurd (omega arith)
 
--- 1 and 2 come before 0
-before_0 : (P : ℕ → Type 0) → P 1 → P 2 → (y : ℕ) → place y < place 0 → P y
+before_0 : (y : ℕ) → place y < place 0 → (1 ≤ y) × (y < 3)
 unfolding place
-before_0 P f g zero h = absurd (omega arith)
-before_0 P f g (suc zero) h = f
-before_0 P f g (suc (suc zero)) h = g
-before_0 P f g (suc (suc (suc y))) h = absurd (omega arith)
+before_0 zero h = absurd (omega arith)
+before_0 (suc zero) h = omega arith
+before_0 (suc (suc zero)) h = omega arith
+before_0 (suc (suc (suc y))) h = absurd (omega arith)
 
--- the labels tried before, and the one that was taken
-module _ {A : List ℕ → List ℕ → Type 0} {cap : ℕ} {perms perms₁ : List ℕ} {i p : ℕ} {t : Bool} (T : Tried A cap perms i p 1 perms₁ t) where
-  pub chosen_1 : t ≡ true → Chosen A cap perms i p 1
-  unfolding place
-  chosen_1 e = record { label = omega arith; earlier = λ y h. absurd (omega arith); can = (T.yes e).1 }
+module _ {A : List ℕ → List ℕ → Type 0} {cap : ℕ} {perms : List ℕ} {i p x : ℕ} {perms' space₀ space : List ℕ} (P : Passed A cap perms i p x perms' space₀ space) where
+  -- one label more
+  module _ {perms'' : List ℕ} {taken : Bool} (T : Tried A cap perms' i p x perms'' taken) where
+    pub passed_more : {space' : List ℕ} → taken ≡ false → drop cell_bytes space' ≡ drop cell_bytes space → Passed A cap perms i p (x + 1) perms'' space₀ space'
+    passed_more e f =
+        record {
+          others = λ q. T.others q ∙ P.others q;
+          cannot = λ y a b. ⊎_elim (λ q. rw q (rw (P.others (only x)) at (T.no e))) (λ h. P.cannot y a h) (eq-or-lt_of_le (omega arith));
+          frame = f ∙ P.frame;
+        }
 
-  -- what a second try says of the permissions before the first
-  cannot_first : (x : ℕ) → CannotHave A cap perms₁ i p x → CannotHave A cap perms i p x
-  cannot_first x f = rw (T.others (only x)) at f
+    pub passed_chosen : 1 ≤ x → x ≤ 2 → taken ≡ true → Chosen A cap perms i p x
+    passed_chosen a b e =
+        record {
+          label = b;
+          earlier = λ y h. let t = before x y a b h in P.cannot y t.0 t.1;
+          can = rw (P.others (only x)) at (T.yes e).1;
+        }
 
-  can_first : (x : ℕ) → CanHave A cap perms₁ i p x → CanHave A cap perms i p x
-  can_first x f = rw (T.others (only x)) at f
-
-  module _ {perms₂ : List ℕ} {u : Bool} (U : Tried A cap perms₁ i p 2 perms₂ u) where
-    pub chosen_2 : t ≡ false → u ≡ true → Chosen A cap perms i p 2
-    chosen_2 e f = record { label = omega arith; earlier = before_2 (CannotHave A cap perms i p) (T.no e); can = can_first 2 (U.yes f).1 }
-
-    pub set_2 : u ≡ true → perms₂ ≡ set perms i (only 2)
-    set_2 f = (U.yes f).0 ∙ T.others (only 2)
-
-    pub chosen_0 : t ≡ false → u ≡ false → Chosen A cap perms i p 0
-    chosen_0 e f = record { label = omega arith; earlier = before_0 (CannotHave A cap perms i p) (T.no e) (cannot_first 2 (U.no f)); can = inl (none_later p) }
-
-    pub set_0 : (q : ℕ) → set perms₂ i q ≡ set perms i q
-    set_0 q = U.others q ∙ T.others q
+  -- no receiver is left
+  pub passed_all : 3 ≤ x → Chosen A cap perms i p 0
+  passed_all h = record { label = omega arith; earlier = λ y g. let t = before_0 y g in P.cannot y t.0 (omega arith); can = inl (none_later p) }
 
 -- the oracle is lent the same with other permissions and another cap
 pub ready_for : {positions ends order perms perms' : List ℕ} {m cap cap' : ℕ} {left space : List ℕ}

@@ -12,36 +12,26 @@ ghost use Rattle.tracks.specs.Tracks.{Lent, Most, Answered, Solved, Prepared};
 ghost use Rattle.tracks.specs.Narrowing.{Ordered, Chosen, Narrowed, Tried, RowReady};
 
 use basics::MAX_ROWS;
-
-// The order in which labels are tried: receiver 1, the other receiver, and last not heard.
-const FIRST: u8 = 1;
-
-const SECOND: u8 = 3 - FIRST;
+use labels::permission::{may_have, only_label};
+use pairs::OrderedRows;
 
 // Whether a permission permits a label that comes after this one, in the order 1, 2, 0.
 fn may_have_later(perm: u8, label: u8) -> bool
     requires { label ≤ 2 }
     ensures { result ≡ false → (y : ℕ) → place label < place y → permits perm y ≡ false }
 {
-    if label == 0 {
-        return false;
+    match label {
+        1 => may_have(perm, 2) || may_have(perm, 0),
+        2 => may_have(perm, 0),
+        _ => false,
     }
-    if labels::permission::may_have(perm, 0) {
-        return true;
-    }
-    if label == 2 {
-        return false;
-    }
-    labels::permission::may_have(perm, 2)
 }
 
 // Tries the label for row i, whose permission was perm: it is taken if the best with it alone still reaches the cap. The last label that is permitted needs no try.
+// The lists that are written stay parameters, as in `pairs`.
 fn take_label(
-    positions: &[u16],
-    ends: &[u16],
-    order: &[u8],
+    rows: OrderedRows,
     perms: &mut [u8],
-    m: usize,
     cap: u8,
     left: &mut [u8],
     space: &mut [u8],
@@ -49,73 +39,54 @@ fn take_label(
     perm: u8,
     label: u8,
 ) -> bool
-    requires row_ready { RowReady positions.now ends.now order.now perms.old m cap left.old space.old i }
+    requires row_ready { RowReady rows.positions.now rows.ends.now rows.order.now perms.old rows.m cap left.old space.old i }
     requires label_bound { label ≤ 2 }
-    ensures tried { Tried (Ordered positions.now ends.now order.now) cap perms.old i perm label perms.new result }
+    ensures tried { Tried (Ordered rows.entry.positions.now rows.entry.ends.now rows.entry.order.now) cap perms.old i perm label perms.new result }
     ensures space_unchanged { drop cell_bytes space.new ≡ drop cell_bytes space.old }
 {
-    if !labels::permission::may_have(perm, label) {
+    if !may_have(perm, label) {
         return false;
     }
-    perms[i] = labels::permission::only_label(label);
+    perms[i] = only_label(label);
     if !may_have_later(perm, label) {
         return true;
     }
-    let best = pairs::capped_best(positions, ends, order, perms, m, cap, left, space);
+    let best = rows.capped_best(perms, cap, left, space);
     best == cap
 }
 
 // Leaves row i the first of the labels 1, 2, 0 with which the cap is still reached, and returns the label.
 fn narrow_row(
-    positions: &[u16],
-    ends: &[u16],
-    order: &[u8],
+    rows: OrderedRows,
     perms: &mut [u8],
-    m: usize,
     cap: u8,
     left: &mut [u8],
     space: &mut [u8],
     i: usize,
 ) -> u8
-    requires { RowReady positions.now ends.now order.now perms.old m cap left.old space.old i }
-    ensures chosen { Chosen (Ordered positions.now ends.now order.now) cap perms.old i (at perms.old i) result }
+    requires { RowReady rows.positions.now rows.ends.now rows.order.now perms.old rows.m cap left.old space.old i }
+    ensures chosen { Chosen (Ordered rows.entry.positions.now rows.entry.ends.now rows.entry.order.now) cap perms.old i (at perms.old i) result }
     ensures perms_after { perms.new ≡ set perms.old i (only result) }
     ensures space_unchanged { drop cell_bytes space.new ≡ drop cell_bytes space.old }
 {
     let perm = perms[i];
-    if take_label(
-        positions, ends, order, perms, m, cap, left, space, i, perm, FIRST,
-    ) {
-        return FIRST;
+    for label in 1..3 {
+        if take_label(rows, perms, cap, left, space, i, perm, label) {
+            return label;
+        }
     }
-    if take_label(
-        positions, ends, order, perms, m, cap, left, space, i, perm, SECOND,
-    ) {
-        return SECOND;
-    }
-    perms[i] = labels::permission::only_label(0);
+    perms[i] = only_label(0);
     0
 }
 
 // Leaves each row one label.
-fn narrow(
-    positions: &[u16],
-    ends: &[u16],
-    order: &[u8],
-    perms: &mut [u8],
-    m: usize,
-    cap: u8,
-    left: &mut [u8],
-    space: &mut [u8],
-)
-    requires { Ready positions.now ends.now order.now perms.old m cap left.old space.old }
-    ensures narrowed { Narrowed (Ordered positions.now ends.now order.now) cap perms.old (length perms.old) perms.new }
+fn narrow(rows: OrderedRows, perms: &mut [u8], cap: u8, left: &mut [u8], space: &mut [u8])
+    requires { Ready rows.positions.now rows.ends.now rows.order.now perms.old rows.m cap left.old space.old }
+    ensures narrowed { Narrowed (Ordered rows.entry.positions.now rows.entry.ends.now rows.entry.order.now) cap perms.old (length perms.old) perms.new }
     ensures space_unchanged { drop cell_bytes space.new ≡ drop cell_bytes space.old }
 {
-    let mut i: usize = 0;
-    while i < perms.len() {
-        narrow_row(positions, ends, order, perms, m, cap, left, space, i);
-        i += 1;
+    for i in 0..perms.len() {
+        narrow_row(rows, perms, cap, left, space, i);
     }
 }
 
@@ -138,6 +109,7 @@ fn prepare(
 }
 
 // The most that can be heard and one more, 0 without an assignment; where narrowing is asked, the permissions are narrowed to the best assignment.
+// A flag, as in the record `Solved`: with a closure for the step the function that holds the arrays would be made twice, and its contract would have to say what any step leaves.
 fn solve_lent(
     circle: u16,
     starts: &mut [u16],
@@ -154,12 +126,16 @@ fn solve_lent(
     ensures space_unchanged { drop core_bytes space.new ≡ drop core_bytes space.old }
 {
     let m = prepare(circle, starts, lengths, order, space);
+    let rows = OrderedRows {
+        positions: starts,
+        ends: lengths,
+        order,
+        m,
+    };
     // no 64 rows reach the cap 66
-    let best = pairs::capped_best(starts, lengths, order, perms, m, 66, left, space);
-    if narrowing {
-        if 0 < best {
-            narrow(starts, lengths, order, perms, m, best, left, space);
-        }
+    let best = rows.capped_best(perms, 66, left, space);
+    if narrowing && 0 < best {
+        narrow(rows, perms, best, left, space);
     }
     best
 }
@@ -193,6 +169,7 @@ fn solve(
 }
 
 // The best assignment: 0 where there is none, else its count and one more, and its labels are those that `label_of` gives of the permissions then.
+// Both in one byte, and no Option, since callers rest on this contract: it is the value of a cell of the working space, in which the core counts throughout.
 // What else the permissions hold is open, and so is what is left of starts and lengths and of the first 4,608 bytes of the space.
 pub fn best_assignment(
     circle: u16,

@@ -12,8 +12,8 @@ use trial_report::{more, print};
 
 const TABLES: u32 = 5000;
 
-// Of how many tables each fact holds, and the state of the sequence.
-#[derive(Clone, Copy)]
+// Of how many tables each fact holds.
+#[derive(Clone, Copy, Default)]
 struct Tally {
     none: u32,
     crossing: u32,
@@ -21,46 +21,35 @@ struct Tally {
     tied: u32,
     changed: u32,
     differ: u32,
-    state: u64,
 }
 
-// One table more is compared.
-fn compared(tally: Tally) -> Tally {
-    let t = table::draw(tally.state);
-    let permissions = t.permissions;
-    let found = answers::found(t, &permissions);
-    let free = answers::found(t, &[7u8; 8]);
-    let labels = found.labels;
-    let heard = rows::heard(t, &labels);
-    let differ = answers::differ(
-        found,
-        answers::assigned(t, false),
-        answers::assigned(t, true),
-    );
-    Tally {
-        none: more(tally.none, found.answer == 0),
-        crossing: more(tally.crossing, 1 < heard.crossing),
-        whole: more(tally.whole, 0 < heard.whole),
-        tied: more(tally.tied, 1 < found.best),
-        changed: more(tally.changed, changed(found, free)),
-        differ: more(tally.differ, differ),
-        state: t.state,
+impl Tally {
+    // One table more is compared.
+    fn with_table(self, t: table::Table) -> Tally {
+        let found = answers::found(t, &t.permissions);
+        let free = answers::found(t, &[7; 8]);
+        let heard = rows::heard(t, &found.labels());
+        let assigned = answers::solved(t, tracks::best_assignment);
+        let counted = answers::solved(t, tracks::best_count);
+        Tally {
+            none: more(self.none, found.plan.is_none()),
+            crossing: more(self.crossing, 1 < heard.crossing),
+            whole: more(self.whole, 0 < heard.whole),
+            tied: more(self.tied, 1 < found.best),
+            changed: more(self.changed, changed(found, free)),
+            differ: more(self.differ, answers::differ(found, assigned, counted)),
+        }
     }
 }
 
 // All tables are compared.
 fn compare() -> Tally {
-    let mut tally = Tally {
-        none: 0,
-        crossing: 0,
-        whole: 0,
-        tied: 0,
-        changed: 0,
-        differ: 0,
-        state: 149,
-    };
-    for turn in 0..TABLES {
-        tally = compared(tally);
+    let mut tally = Tally::default();
+    let mut state = 149;
+    for _turn in 0..TABLES {
+        let t = table::draw(state);
+        tally = tally.with_table(t);
+        state = t.state;
     }
     tally
 }

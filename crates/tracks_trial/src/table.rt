@@ -7,15 +7,17 @@ use brute_force::random;
 #[derive(Clone, Copy)]
 pub struct Table {
     pub circle: u16,
+    // the first of the eight places are rows; `tracks` is lent a slice of each list
     pub rows: usize,
     pub starts: [u16; 8],
     pub lengths: [u16; 8],
     pub permissions: [u8; 8],
     // the sequence's state after the table
     pub state: u64,
+    ghost drawn: { Drawn circle rows starts lengths permissions },
 }
 
-// One of the `count` numbers from `low` on.
+// One of the `count` numbers from `low` on; `random::from` promises no bound.
 fn from(state: u64, low: u16, count: u16) -> u16
     requires { (0 < count) × (low + count < 65536) }
     ensures { (low ≤ result) × (result < low + count) }
@@ -29,11 +31,9 @@ fn fill(list: &mut [u16], state: u64, low: u16, count: u16) -> u64
     ensures { Within low (low + count) (length list.new) list.new }
 {
     let mut s = state;
-    let mut i = 0;
-    while i < list.len() {
+    for i in 0..list.len() {
         s = random::next(s);
         list[i] = from(s, low, count);
-        i += 1;
     }
     s
 }
@@ -55,37 +55,33 @@ fn permission(state: u64) -> u8 {
 // Fills a list with permissions; the result is the state after them.
 fn permit(list: &mut [u8], state: u64) -> u64 {
     let mut s = state;
-    let mut i = 0;
-    while i < list.len() {
+    for place in list {
         s = random::next(s);
-        list[i] = permission(s);
-        i += 1;
+        *place = permission(s);
     }
     s
 }
 
 // A table of at most 7 rows on at most 24 ticks, the longest of its arcs drawn first, so that arcs of all lengths up to the whole circle come up.
-pub fn draw(state: u64) -> Table
-    ensures { Drawn result.circle result.rows result.starts result.lengths result.permissions }
-{
+pub fn draw(state: u64) -> Table {
     let a = random::next(state);
     let circle = from(a, 1, 24);
     let b = random::next(a);
     let rows = random::below(b, 8) as usize;
     let c = random::next(b);
     let longest = from(c, 1, circle);
-    let mut starts = [0u16; 8];
+    let mut starts = [0; 8];
     let d = fill(&mut starts, c, 0, circle);
-    let mut lengths = [0u16; 8];
+    let mut lengths = [0; 8];
     let e = fill(&mut lengths, d, 1, longest);
-    let mut permissions = [0u8; 8];
-    let f = permit(&mut permissions, e);
+    let mut permissions = [0; 8];
+    let state = permit(&mut permissions, e);
     Table {
-        circle: circle,
-        rows: rows,
-        starts: starts,
-        lengths: lengths,
-        permissions: permissions,
-        state: f,
+        circle,
+        rows,
+        starts,
+        lengths,
+        permissions,
+        state,
     }
 }

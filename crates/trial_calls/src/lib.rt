@@ -1,11 +1,13 @@
 // Calls of the planner and of the plan tape writer, each judged whole: the refusal's number, the count, every place of the list that is written,
-// every byte of the working space. Product code has a part in each call: `table::setting_of` makes its setting, `refusals::number` gives the number of its refusal.
+// every byte of the working space. Product code has a part in each call: a table is of its own types, and `u8::from` gives the number of its refusal.
 #![tactic(auto)]
 
-ghost use Rattle.std.specs.Prelude.{◌≡◌, ◌≤◌, take, replicate};
+ghost use Rattle.std.specs.Prelude.{◌≡◌, ◌≤◌, true, ◌↔◌, take, replicate};
+ghost use Rattle.refusals.specs.Refusals.{number_of, answer_of};
 ghost use Rattle.trial_calls.specs.Judged.{written_at, is_written, cleared};
 
-use refusals::Answer;
+use refusals::Refusal;
+use table::{Rows, Setting, Table};
 use window::Kind;
 
 // What labels, working space and tape buffer hold before a call.
@@ -14,38 +16,22 @@ pub const BEFORE: u8 = 90;
 // The working space that a case is lent, if it does not say otherwise: 100 bytes more than the 16,384 that were cleared before request 9, so that a call which clears those is seen.
 pub const LENT_BYTES: usize = 16484;
 
-pub fn at_most(n: usize, most: usize) -> usize
-    ensures { result ≤ most }
-{
-    if n <= most { n } else { most }
-}
-
 // The first places of a list; all if there are fewer.
-pub fn first_words(list: &[u16], n: usize) -> &[u16]
+#[tactic(auto, using(crate::proofs::Parts::take_all))]
+pub fn first<T>(list: &[T], n: usize) -> &[T]
     ensures { result.now ≡ take n list.now }
 {
-    if n <= list.len() {
-        return &list[..n];
-    }
-    list
+    if n <= list.len() { &list[..n] } else { list }
 }
 
-pub fn first_bytes(list: &[u8], n: usize) -> &[u8]
-    ensures { result.now ≡ take n list.now }
+// Whether a call reports the number, 0 for accepted, and the count, 0 on a refusal. What is expected is the papers' number: the product's names have no part in it.
+pub fn is_answer(answer: Result<usize, Refusal>, number: u8, count: usize) -> bool
+    ensures { (result ≡ true) ↔ ((number_of (answer_of answer).refusal ≡ number) × ((answer_of answer).count ≡ count)) }
 {
-    if n <= list.len() {
-        return &list[..n];
+    match answer {
+        Ok(given) => number == 0 && given == count,
+        Err(refusal) => u8::from(refusal) == number && count == 0,
     }
-    list
-}
-
-// Whether a call reports the number and the count.
-pub fn is_answer(answer: Answer, number: u8, count: usize) -> bool {
-    let refusal = answer.refusal;
-    if refusals::number(refusal) != number {
-        return false;
-    }
-    answer.count == count
 }
 
 // What is to stand at a place of a list whose first places are written.
@@ -59,12 +45,10 @@ fn written_at(first: &[u8], i: usize) -> u8
 pub fn is_written(list: &[u8], first: &[u8]) -> bool
     ensures { result ≡ is_written list.now first.now }
 {
-    let mut i = 0;
-    while i < list.len() {
+    for i in 0..list.len() {
         if list[i] != written_at(first, i) {
             return false;
         }
-        i += 1;
     }
     true
 }
@@ -74,8 +58,7 @@ fn cleared(number: u8) -> usize
     ensures { result ≡ cleared number }
 {
     match number {
-        0 => 4608,
-        8 => 4608,
+        0 | 8 => 4608,
         _ => 0,
     }
 }
@@ -85,63 +68,44 @@ pub fn is_left(space: &[u8], number: u8) -> bool
     ensures { result ≡ is_written space.now (take (cleared number) (replicate 4608 0)) }
 {
     let zeros = [0u8; 4608];
-    is_written(space, first_bytes(&zeros, cleared(number)))
+    is_written(space, first(&zeros, cleared(number)))
 }
 
 // How many labels are 1 or 2.
 pub fn heard(labels: &[u8]) -> usize {
-    let mut n: usize = 0;
-    let mut i = 0;
-    while i < labels.len() {
-        n = with_label(n, labels[i]);
-        i += 1;
-    }
-    n
+    labels
+        .iter()
+        .filter(|label| matches!(**label, 1 | 2))
+        .count()
 }
 
-fn with_label(n: usize, label: u8) -> usize {
-    match label {
-        1 => std::num::wrapping_add_usize(n, 1),
-        2 => std::num::wrapping_add_usize(n, 1),
-        _ => n,
+// A run with a gap and the receivers' open hours.
+pub fn run(ticks: u16, gap: u16, hours: [[u16; 2]; 2]) -> Setting {
+    Setting {
+        kind: Kind::Run,
+        ticks,
+        gap,
+        hours,
     }
 }
 
 // The planner's answer if it is lent so many of the places for labels and so many of the bytes of working space.
 pub fn plan(
-    kind: Kind,
-    ticks: u16,
-    gap: u16,
-    hours: [[u16; 2]; 2],
-    starts: &[u16],
-    ends: &[u16],
-    marks: &[u8],
+    table: Table,
     labels: &mut [u8],
     places: usize,
     space: &mut [u8],
     bytes: usize,
-) -> Answer {
-    let n = at_most(places, labels.len());
-    let m = at_most(bytes, space.len());
-    planner::plan(
-        table::setting_of(kind, ticks, gap, hours),
-        starts,
-        ends,
-        marks,
-        &mut labels[..n],
-        &mut space[..m],
-    )
+) -> Result<usize, Refusal> {
+    let n = places.min(labels.len());
+    let m = bytes.min(space.len());
+    planner::plan(table, &mut labels[..n], &mut space[..m])
 }
 
 // Whether the planner, lent so many places for labels and so many bytes of working space, answers with the number and the labels; none on a refusal.
 pub fn is_planned(
-    kind: Kind,
-    ticks: u16,
-    gap: u16,
-    hours: [[u16; 2]; 2],
-    starts: &[u16],
-    ends: &[u16],
-    marks: &[u8],
+    setting: Setting,
+    rows: Rows,
     places: usize,
     bytes: usize,
     number: u8,
@@ -150,15 +114,13 @@ pub fn is_planned(
     let mut list = [BEFORE; 66];
     let mut space = [BEFORE; LENT_BYTES];
     let answer = plan(
-        kind, ticks, gap, hours, starts, ends, marks, &mut list, places, &mut space, bytes,
+        Table { setting, rows },
+        &mut list,
+        places,
+        &mut space,
+        bytes,
     );
-    if !is_answer(answer, number, heard(labels)) {
-        return false;
-    }
-    if !is_written(&list, labels) {
-        return false;
-    }
-    is_left(&space, number)
+    is_answer(answer, number, heard(labels)) && is_written(&list, labels) && is_left(&space, number)
 }
 
 // The same of a round, with a place for each row's label.
@@ -171,14 +133,14 @@ pub fn in_round(
     number: u8,
     labels: &[u8],
 ) -> bool {
-    is_planned(
-        Kind::Round,
-        ticks,
-        gap,
-        [[0, 0], [0, 0]],
+    let rows = Rows {
         starts,
         ends,
         marks,
+    };
+    is_planned(
+        Setting::round(ticks, gap),
+        rows,
         starts.len(),
         LENT_BYTES,
         number,
@@ -197,14 +159,14 @@ pub fn in_run(
     number: u8,
     labels: &[u8],
 ) -> bool {
-    is_planned(
-        Kind::Run,
-        ticks,
-        gap,
-        hours,
+    let rows = Rows {
         starts,
         ends,
         marks,
+    };
+    is_planned(
+        run(ticks, gap, hours),
+        rows,
         starts.len(),
         LENT_BYTES,
         number,
@@ -212,59 +174,17 @@ pub fn in_run(
     )
 }
 
-// The plan tape writer's answer if it is lent so many of the bytes for the tape.
-fn write(
-    kind: Kind,
-    ticks: u16,
-    gap: u16,
-    hours: [[u16; 2]; 2],
-    starts: &[u16],
-    ends: &[u16],
-    marks: &[u8],
-    labels: &[u8],
-    tape: &mut [u8],
-    bytes: usize,
-) -> Answer {
-    let n = at_most(bytes, tape.len());
-    plan_tape::write_plan(
-        table::setting_of(kind, ticks, gap, hours),
-        starts,
-        ends,
-        marks,
-        labels,
-        &mut tape[..n],
-    )
-}
-
 // Whether the plan tape writer, lent so many bytes, answers with the number and the tape; none on a refusal.
 pub fn is_taped(
-    kind: Kind,
-    ticks: u16,
-    gap: u16,
-    hours: [[u16; 2]; 2],
-    starts: &[u16],
-    ends: &[u16],
-    marks: &[u8],
+    setting: Setting,
+    rows: Rows,
     labels: &[u8],
     bytes: usize,
     number: u8,
     tape: &[u8],
 ) -> bool {
     let mut buffer = [BEFORE; 400];
-    let answer = write(
-        kind,
-        ticks,
-        gap,
-        hours,
-        starts,
-        ends,
-        marks,
-        labels,
-        &mut buffer,
-        bytes,
-    );
-    if !is_answer(answer, number, tape.len()) {
-        return false;
-    }
-    is_written(&buffer, tape)
+    let n = bytes.min(buffer.len());
+    let answer = plan_tape::write_plan(Table { setting, rows }, labels, &mut buffer[..n]);
+    is_answer(answer, number, tape.len()) && is_written(&buffer, tape)
 }

@@ -243,6 +243,6 @@ free_after kind R g s e s' e' v w n k l h c =
     (test e s'))
 
 -- what `too_close` promises, from what it computes
-pub too_close_said : (r : Bool) (kind : Kind) (R g s e s' e' : ℕ) → r ≡ too_close kind R g s e s' e'
-    → (r ≡ too_close kind R g s e s' e') × (Window kind R s e → Window kind R s' e' → (r ≡ true) ↔ TooClose kind R g s e s' e')
-too_close_said r kind R g s e s' e' q = (q, λ v w. rw q (too_close_iff kind R g s e s' e' v w))
+pub too_close_meaning : {r : Bool} {kind : Kind} {R g s e s' e' : ℕ} → r ≡ too_close kind R g s e s' e'
+    → Window kind R s e → Window kind R s' e' → (r ≡ true) ↔ TooClose kind R g s e s' e'
+too_close_meaning {kind = kind} {R = R} {g = g} {s = s} {e = e} {s' = s'} {e' = e'} q v w = rw q (too_close_iff kind R g s e s' e' v w)

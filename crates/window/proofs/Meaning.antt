@@ -207,13 +207,11 @@ overlap_start kind R s e e' v w = record { tick = s; below = window_start kind R
 
 -- ---- what the functions promise, from what they compute
 
-pub covers_said : (r : Bool) (s e t : ℕ) → r ≡ covers s e t
-    → (r ≡ covers s e t) × ((kind : Kind) (R : ℕ) → Window kind R s e → t < R → (r ≡ true) ↔ Covers kind R s e t)
-covers_said r s e t q = (q, λ kind R w h. rw q (covers_iff kind R s e w t h))
+pub covers_meaning : {r : Bool} {s e t : ℕ} → r ≡ covers s e t → (kind : Kind) (R : ℕ) → Window kind R s e → t < R → (r ≡ true) ↔ Covers kind R s e t
+covers_meaning {s = s} {e = e} {t = t} q kind R w h = rw q (covers_iff kind R s e w t h)
 
-pub overlaps_said : (r : Bool) (s e s' e' : ℕ) → r ≡ overlaps s e s' e'
-    → (r ≡ overlaps s e s' e') × ((kind : Kind) (R : ℕ) → Window kind R s e → Window kind R s' e' → (r ≡ true) ↔ Overlap kind R s e s' e')
-overlaps_said r s e s' e' q = (q, λ kind R v w. rw q (overlaps_iff kind R s e s' e' v w))
+pub overlaps_meaning : {r : Bool} {s e s' e' : ℕ} → r ≡ overlaps s e s' e' → (kind : Kind) (R : ℕ) → Window kind R s e → Window kind R s' e' → (r ≡ true) ↔ Overlap kind R s e s' e'
+overlaps_meaning {s = s} {e = e} {s' = s'} {e' = e'} q kind R v w = rw q (overlaps_iff kind R s e s' e' v w)
 
 -- ---- a window as an arc: the ticks whose distance from the start is below the window's length
 
@@ -290,6 +288,5 @@ lies_iff kind R s e t = (
     tests : (lies_in kind R s e t ≡ true) ↔ ((Window kind R s e × (t < R)) × (ltb (distance R s t) (ticks_in kind R s e) ≡ true))
     tests = and_iff (and_iff (window_iff kind R s e) (ltb_iff t R)) (λ x. x, λ x. x)
 
-pub lies_said : {r : Bool} (kind : Kind) (R s e t : ℕ) → r ≡ lies_in kind R s e t
-    → (r ≡ lies_in kind R s e t) × ((r ≡ true) ↔ (Window kind R s e × (t < R) × Covers kind R s e t))
-lies_said kind R s e t q = (q, rw q (lies_iff kind R s e t))
+pub lies_meaning : {r : Bool} {kind : Kind} {R s e t : ℕ} → r ≡ lies_in kind R s e t → (r ≡ true) ↔ (Window kind R s e × (t < R) × Covers kind R s e t)
+lies_meaning {kind = kind} {R = R} {s = s} {e = e} {t = t} q = rw q (lies_iff kind R s e t)

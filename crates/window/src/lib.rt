@@ -3,29 +3,138 @@
 
 ghost use Rattle.std.specs.Prelude.{◌≡◌, ◌↔◌, true, ℕ, ◌<◌};
 ghost use Rattle.window.specs.Ticks.{Ticks, distance};
-ghost use Rattle.window.specs.Windows.{next, Covers, Overlap, Window, is_window, covers, ticks_in, lies_in, overlaps};
+// The definition `Window` is `Proper` in clauses, since the struct has its name.
+ghost use Rattle.window.specs.Windows.{next, Covers, Overlap, Window as Proper, is_window, covers, ticks_in, lies_in, overlaps};
 ghost use Rattle.window.specs.Gaps.{TooClose, is_near, reaches, too_close};
 
 // "14, g above 600": the longest gap.
 pub const MAX_GAP: u16 = 600;
 
 // A round is a day that repeats; a run is one stretch of time.
-#[derive(Clone, Copy)]
+#[derive(Clone, Copy, Debug, PartialEq, Eq)]
 pub enum Kind {
     Round,
     Run,
 }
 
+impl Kind {
+    // The tick after `tick`: in a round 0 comes after the last one.
+    pub fn next_tick(self, ticks: u16, tick: u16) -> u16
+        requires { tick < ticks }
+        ensures { result ≡ next self ticks tick }
+    {
+        match self {
+            Kind::Round if tick + 1 == ticks => 0,
+            _ => tick + 1,
+        }
+    }
+}
+
 // "Row i has a start and an end (16-bit numbers) and a mark"; what a mark says is the crate `marks`.
-#[derive(Clone, Copy)]
+#[derive(Clone, Copy, Debug, PartialEq, Eq)]
 pub struct Row {
     pub start: u16,
     pub end: u16,
     pub mark: u8,
 }
 
+impl Row {
+    pub fn window(self) -> Window
+        ensures { result ≡ record { start = self.start; end = self.end } }
+    {
+        Window {
+            start: self.start,
+            end: self.end,
+        }
+    }
+}
+
+// A start and an end on any numbers: `is_proper` says whether they are a window of a round or a run.
+#[derive(Clone, Copy, Debug, PartialEq, Eq)]
+pub struct Window {
+    pub start: u16,
+    pub end: u16,
+}
+
+impl Window {
+    // Whether start and end make a window of a round or a run of `ticks` ticks (check 6).
+    pub fn is_proper(self, kind: Kind, ticks: u16) -> bool
+        ensures { result ≡ is_window kind ticks self.start self.end }
+    {
+        match kind {
+            Kind::Round => self.start < ticks && self.end < ticks,
+            Kind::Run => self.start < self.end && self.end <= ticks,
+        }
+    }
+
+    // How many ticks the window covers.
+    #[tactic(auto, unfolding(crate::specs::Windows::ticks_in))]
+    pub fn length(self, kind: Kind, ticks: u16) -> u16
+        requires { Proper kind ticks self.start self.end }
+        ensures { result ≡ ticks_in kind ticks self.start self.end }
+    {
+        match kind {
+            // A distance of 0 is a length of R.
+            Kind::Round if self.start == self.end => ticks,
+            Kind::Round => distance(ticks, self.start, self.end),
+            Kind::Run => self.end - self.start,
+        }
+    }
+
+    // Whether the window covers the tick. Of a window that fails check 6 it is what `covers` computes, and says nothing about ticks.
+    #[tactic(auto, unfolding(crate::specs::Windows::covers))]
+    pub fn covers(self, tick: u16) -> bool
+        ensures computed { result ≡ covers self.start self.end tick }
+        ensures meaning { (kind : Kind) (R : ℕ) → Proper kind R self.start self.end → tick < R → (result ≡ true) ↔ Covers kind R self.start self.end tick }
+    {
+        if self.start < self.end {
+            self.start <= tick && tick < self.end
+        } else {
+            self.start <= tick || tick < self.end
+        }
+    }
+
+    // Whether start and end make a window of a round or a run of `ticks` ticks and the tick lies in it, on any numbers.
+    #[tactic(auto, unfolding(crate::specs::Windows::lies_in))]
+    pub fn lies_at(self, kind: Kind, ticks: u16, tick: u16) -> bool
+        ensures computed { result ≡ lies_in kind ticks self.start self.end tick }
+        ensures meaning { (result ≡ true) ↔ (Proper kind ticks self.start self.end × (tick < ticks) × Covers kind ticks self.start self.end tick) }
+    {
+        self.is_proper(kind, ticks)
+            && tick < ticks
+            && distance(ticks, self.start, tick) < self.length(kind, ticks)
+    }
+
+    // Whether two windows overlap. Of windows that fail check 6 it is what `overlaps` computes, and says nothing about ticks.
+    #[tactic(auto, unfolding(crate::specs::Windows::overlaps))]
+    pub fn overlaps(self, other: Window) -> bool
+        ensures computed { result ≡ overlaps self.start self.end other.start other.end }
+        ensures meaning { (kind : Kind) (R : ℕ) → Proper kind R self.start self.end → Proper kind R other.start other.end → (result ≡ true) ↔ Overlap kind R self.start self.end other.start other.end }
+    {
+        self.covers(other.start) || other.covers(self.start)
+    }
+
+    // Whether two windows overlap or have fewer than `gap` ticks between them. Of windows that fail check 6 it is what `too_close` computes, and says nothing about ticks.
+    #[tactic(auto, unfolding(crate::specs::Gaps::too_close))]
+    pub fn is_too_close(self, kind: Kind, ticks: u16, gap: u16, other: Window) -> bool
+        ensures computed { result ≡ too_close kind ticks gap self.start self.end other.start other.end }
+        ensures meaning { Proper kind ticks self.start self.end → Proper kind ticks other.start other.end → (result ≡ true) ↔ TooClose kind ticks gap self.start self.end other.start other.end }
+    {
+        self.reaches(kind, ticks, gap, other.start) || other.reaches(kind, ticks, gap, self.start)
+    }
+
+    // Whether the window, or one of the `gap` ticks after it, is at the tick.
+    #[tactic(auto, unfolding(crate::specs::Gaps::reaches))]
+    fn reaches(self, kind: Kind, ticks: u16, gap: u16, tick: u16) -> bool
+        ensures { result ≡ reaches kind ticks gap self.start self.end tick }
+    {
+        self.covers(tick) || is_near(kind, ticks, gap, self.end, tick)
+    }
+}
+
 // "how far a tick lies after a window's start", on a circle of `ticks` ticks: "a comparison and at most two additions or subtractions", without division or remainder. The brackets
-// keep the sum within 16 bits, where the tick plus R need not be.
+// keep the sum within 16 bits, where the tick plus R need not be. No method of Window: the core measures from starts on circles of its own.
+#[tactic(auto, using(crate::proofs::Circle::distance_after, crate::proofs::Circle::distance_before))]
 pub fn distance(ticks: u16, start: u16, tick: u16) -> u16
     requires { Ticks ticks start tick }
     ensures { result ≡ distance ticks start tick }
@@ -37,140 +146,17 @@ pub fn distance(ticks: u16, start: u16, tick: u16) -> u16
     }
 }
 
-// Whether start and end make a window of a round or a run of `ticks` ticks (check 6).
-pub fn is_window(kind: Kind, ticks: u16, start: u16, end: u16) -> bool
-    ensures { result ≡ is_window kind ticks start end }
-{
-    match kind {
-        Kind::Round => {
-            if start < ticks {
-                return end < ticks;
-            }
-            false
-        }
-        Kind::Run => {
-            if start < end {
-                return end <= ticks;
-            }
-            false
-        }
-    }
-}
-
-// How many ticks a window covers.
-pub fn ticks_in(kind: Kind, ticks: u16, start: u16, end: u16) -> u16
-    requires { Window kind ticks start end }
-    ensures { result ≡ ticks_in kind ticks start end }
-{
-    match kind {
-        Kind::Round => {
-            // A distance of 0 is a length of R.
-            if start == end {
-                return ticks;
-            }
-            distance(ticks, start, end)
-        }
-        Kind::Run => end - start,
-    }
-}
-
-// Whether the window covers the tick. Of a window that fails check 6 it is what `covers` computes, and says nothing about ticks.
-pub fn covers_tick(start: u16, end: u16, tick: u16) -> bool
-    ensures computed { result ≡ covers start end tick }
-    ensures meaning { (kind : Kind) (R : ℕ) → Window kind R start end → tick < R → (result ≡ true) ↔ Covers kind R start end tick }
-{
-    if start < end {
-        if start <= tick {
-            return tick < end;
-        }
-        return false;
-    }
-    if tick < end {
-        return true;
-    }
-    start <= tick
-}
-
-// Whether start and end make a window of a round or a run of `ticks` ticks and the tick lies in it, on any numbers.
-pub fn lies_in(kind: Kind, ticks: u16, start: u16, end: u16, tick: u16) -> bool
-    ensures computed { result ≡ lies_in kind ticks start end tick }
-    ensures meaning { (result ≡ true) ↔ (Window kind ticks start end × (tick < ticks) × Covers kind ticks start end tick) }
-{
-    if !is_window(kind, ticks, start, end) {
-        return false;
-    }
-    if ticks <= tick {
-        return false;
-    }
-    distance(ticks, start, tick) < ticks_in(kind, ticks, start, end)
-}
-
-// The tick after `tick`: in a round 0 comes after the last one.
-pub fn next_tick(kind: Kind, ticks: u16, tick: u16) -> u16
-    requires { tick < ticks }
-    ensures { result ≡ next kind ticks tick }
-{
-    match kind {
-        Kind::Round => {
-            if tick + 1 == ticks {
-                return 0;
-            }
-            tick + 1
-        }
-        Kind::Run => tick + 1,
-    }
-}
-
-// Whether two windows overlap. Of windows that fail check 6 it is what `overlaps` computes, and says nothing about ticks.
-pub fn overlap(start: u16, end: u16, start2: u16, end2: u16) -> bool
-    ensures computed { result ≡ overlaps start end start2 end2 }
-    ensures meaning { (kind : Kind) (R : ℕ) → Window kind R start end → Window kind R start2 end2 → (result ≡ true) ↔ Overlap kind R start end start2 end2 }
-{
-    if covers_tick(start, end, start2) {
-        return true;
-    }
-    covers_tick(start2, end2, start)
-}
-
 // Whether fewer than `gap` ticks lie between the end of a window and the start of another. Of any numbers, so that the sums take 32 bits.
+#[tactic(auto, unfolding(crate::specs::Gaps::is_near))]
 fn is_near(kind: Kind, ticks: u16, gap: u16, end: u16, start: u16) -> bool
     ensures { result ≡ is_near kind ticks gap end start }
 {
-    let reach = (end as u32) + (gap as u32);
+    let reach = u32::from(end) + u32::from(gap);
     if end <= start {
-        return (start as u32) < reach;
+        return u32::from(start) < reach;
     }
     match kind {
-        Kind::Round => (start as u32) + (ticks as u32) < reach,
+        Kind::Round => u32::from(start) + u32::from(ticks) < reach,
         Kind::Run => false,
     }
-}
-
-// Whether a window, or one of the `gap` ticks after it, is at the tick.
-fn reaches_tick(kind: Kind, ticks: u16, gap: u16, start: u16, end: u16, tick: u16) -> bool
-    ensures { result ≡ reaches kind ticks gap start end tick }
-{
-    if covers_tick(start, end, tick) {
-        return true;
-    }
-    is_near(kind, ticks, gap, end, tick)
-}
-
-// Whether two windows overlap or have fewer than `gap` ticks between them. Of windows that fail check 6 it is what `too_close` computes, and says nothing about ticks.
-pub fn too_close(
-    kind: Kind,
-    ticks: u16,
-    gap: u16,
-    start: u16,
-    end: u16,
-    start2: u16,
-    end2: u16,
-) -> bool
-    ensures computed { result ≡ too_close kind ticks gap start end start2 end2 }
-    ensures meaning { Window kind ticks start end → Window kind ticks start2 end2 → (result ≡ true) ↔ TooClose kind ticks gap start end start2 end2 }
-{
-    if reaches_tick(kind, ticks, gap, start, end, start2) {
-        return true;
-    }
-    reaches_tick(kind, ticks, gap, start2, end2, start)
 }

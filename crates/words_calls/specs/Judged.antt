@@ -1,10 +1,7 @@
 -- Inner: When a call gave what it is to give, by numbers and places alone: of the product's definitions only the numbers of the refusals are used.
 use Rattle.std.specs.Prelude.{ℕ, ◌≡◌, true, List}
-use Rattle.refusals.specs.declared.Refusal.{Refusal}
-use Rattle.refusals.specs.declared.Answer.{Answer}
-use Rattle.refusals.specs.Refusals.{number_of}
-use Rattle.bit_words.specs.declared.LabelWords.{LabelWords}
-use Rattle.bit_words.specs.declared.MustWord.{MustWord}
+use Rattle.refusals.specs.Refusals.{number_of, Answer, Outcome}
+use Rattle.bit_words.specs.Words.{LabelWords, MustWord}
 use Rattle.trial_calls.specs.Judged.{is_written}
 use Rattle.words_calls.specs.declared.Words.{Words}
 use Rattle.words_calls.specs.declared.Must.{Must}
@@ -25,6 +22,6 @@ pub record LabelsRight (answer : Answer) (list : List ℕ) (rightNumber rightCou
   pub count : answer.count ≡ rightCount
   pub each_label : is_written list labels ≡ true
 
-pub record ClashesRight (refusal : Refusal) (list : List ℕ) (rightNumber : ℕ) (words : List ℕ) : Type 0 where
+pub record ClashesRight (refusal : Outcome) (list : List ℕ) (rightNumber : ℕ) (words : List ℕ) : Type 0 where
   pub number : number_of refusal ≡ rightNumber
   pub each_word : is_written list words ≡ true

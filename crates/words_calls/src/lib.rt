@@ -3,16 +3,18 @@
 #![tactic(auto)]
 
 ghost use Rattle.std.specs.Prelude.{◌≡◌, true, ◌↔◌};
+ghost use Rattle.refusals.specs.Refusals.{answer_of};
+ghost use Rattle.bit_words.specs.Words.{words_given, must_given};
 ghost use Rattle.trial_calls.specs.Judged.{written_at, is_written};
 ghost use Rattle.words_calls.specs.Judged.{WordsRight, MustRight, LabelsRight, ClashesRight};
 
-use bit_words::{LabelWords, MustWord};
-use refusals::{Answer, Refusal};
+use bit_words::LabelWords;
+use refusals::Refusal;
 use table::Setting;
-use trial_calls::{BEFORE, at_most};
+use trial_calls::BEFORE;
 
 // What labels are to be as words: a refusal's number, 0 for accepted, the number heard, and the two words.
-#[derive(Clone, Copy)]
+#[derive(Clone, Copy, Default)]
 pub struct Words {
     pub number: u8,
     pub count: usize,
@@ -21,7 +23,7 @@ pub struct Words {
 }
 
 // What marks are to be as a word.
-#[derive(Clone, Copy)]
+#[derive(Clone, Copy, Default)]
 pub struct Must {
     pub number: u8,
     pub word: u64,
@@ -29,47 +31,49 @@ pub struct Must {
 
 // ---- what a call gave, judged
 
-fn are_words(made: LabelWords, right: Words) -> bool
-    ensures { (result ≡ true) ↔ WordsRight made right }
+fn are_words(made: Result<LabelWords, Refusal>, right: Words) -> bool
+    ensures { (result ≡ true) ↔ WordsRight (words_given made) right }
 {
-    let refusal = made.refusal;
-    if refusals::number(refusal) != right.number {
-        return false;
+    match made {
+        Ok(words) => {
+            right.number == 0
+                && words.count == right.count
+                && words.heard == right.heard
+                && words.receiver == right.receiver
+        }
+        Err(refusal) => {
+            u8::from(refusal) == right.number
+                && right.count == 0
+                && right.heard == 0
+                && right.receiver == 0
+        }
     }
-    if made.count != right.count {
-        return false;
-    }
-    if made.heard != right.heard {
-        return false;
-    }
-    made.receiver == right.receiver
 }
 
-fn is_must(made: MustWord, right: Must) -> bool
-    ensures { (result ≡ true) ↔ MustRight made right }
+fn is_must(made: Result<u64, Refusal>, right: Must) -> bool
+    ensures { (result ≡ true) ↔ MustRight (must_given made) right }
 {
-    let refusal = made.refusal;
-    if refusals::number(refusal) != right.number {
-        return false;
+    match made {
+        Ok(word) => right.number == 0 && word == right.word,
+        Err(refusal) => u8::from(refusal) == right.number && right.word == 0,
     }
-    made.word == right.word
 }
 
 // Whether the labels stand at the first places of the list and the other places are as they were.
-fn are_labels(answer: Answer, list: &[u8], number: u8, count: usize, labels: &[u8]) -> bool
-    ensures { (result ≡ true) ↔ LabelsRight answer list.now number count labels.now }
+fn are_labels(
+    answer: Result<usize, Refusal>,
+    list: &[u8],
+    number: u8,
+    count: usize,
+    labels: &[u8],
+) -> bool
+    ensures { (result ≡ true) ↔ LabelsRight (answer_of answer) list.now number count labels.now }
 {
-    let refusal = answer.refusal;
-    if refusals::number(refusal) != number {
-        return false;
-    }
-    if answer.count != count {
-        return false;
-    }
-    trial_calls::is_written(list, labels)
+    trial_calls::is_answer(answer, number, count) && trial_calls::is_written(list, labels)
 }
 
-// What is to stand at a place of a list whose first places are written.
+// What is to stand at a place of a list whose first places are written. This and `is_written` have twins for bytes in `trial_calls`: the contracts speak of numbers,
+// which the items of a type parameter are not.
 fn written_at(first: &[u64], i: usize) -> u64
     ensures { result ≡ written_at first.now i }
 {
@@ -84,24 +88,19 @@ fn written_at(first: &[u64], i: usize) -> u64
 fn is_written(list: &[u64], first: &[u64]) -> bool
     ensures { result ≡ is_written list.now first.now }
 {
-    let mut i = 0;
-    while i < list.len() {
+    for i in 0..list.len() {
         if list[i] != written_at(first, i) {
             return false;
         }
-        i += 1;
     }
     true
 }
 
 // Whether the words stand at the first places of the list and the other places are as they were.
-fn are_clashes(refusal: Refusal, list: &[u64], number: u8, words: &[u64]) -> bool
-    ensures { (result ≡ true) ↔ ClashesRight refusal list.now number words.now }
+fn are_clashes(outcome: Result<(), Refusal>, list: &[u64], number: u8, words: &[u64]) -> bool
+    ensures { (result ≡ true) ↔ ClashesRight outcome list.now number words.now }
 {
-    if refusals::number(refusal) != number {
-        return false;
-    }
-    is_written(list, words)
+    refusals::number(outcome) == number && is_written(list, words)
 }
 
 // ---- calls. Each list has places more than the most that a call is lent, so that a step beyond the lent ones is seen.
@@ -114,8 +113,13 @@ pub fn gives_must(marks: &[u8], right: Must) -> bool {
     is_must(bit_words::must_of(marks), right)
 }
 
-fn labels_lent(heard: u64, receiver: u64, list: &mut [u8], places: usize) -> Answer {
-    let n = at_most(places, list.len());
+fn labels_lent(
+    heard: u64,
+    receiver: u64,
+    list: &mut [u8],
+    places: usize,
+) -> Result<usize, Refusal> {
+    let n = places.min(list.len());
     bit_words::labels_of(heard, receiver, &mut list[..n])
 }
 
@@ -132,8 +136,8 @@ fn clashes_lent(
     ends: &[u16],
     list: &mut [u64],
     places: usize,
-) -> Refusal {
-    let n = at_most(places, list.len());
+) -> Result<(), Refusal> {
+    let n = places.min(list.len());
     bit_words::clashes::clash_words(setting, starts, ends, &mut list[..n])
 }
 
@@ -147,6 +151,6 @@ pub fn gives_clashes(
     words: &[u64],
 ) -> bool {
     let mut list = [BEFORE as u64; 68];
-    let refusal = clashes_lent(setting, starts, ends, &mut list, places);
-    are_clashes(refusal, &list, number, words)
+    let outcome = clashes_lent(setting, starts, ends, &mut list, places);
+    are_clashes(outcome, &list, number, words)
 }

@@ -1,29 +1,20 @@
 // Windows drawn from a pseudo-random sequence: short days, so that much overlaps, touches and is equal, with faults of every kind among them.
-use crate::counted::Window;
 use brute_force::random;
 use brute_force::random::{below_any, below_too, from};
+use brute_force::windows::{Day, Kind, Window};
 
-// A call: a run or a round of so many ticks, with hours p1, q1, p2, q2, so many rows, and as many places as each list is lent.
+// A call: a day with hours, so many rows, and as many places as each list is lent.
 #[derive(Clone, Copy)]
 pub struct Drawn {
-    pub run: bool,
-    pub ticks: u16,
-    pub gap: u16,
-    pub hours: [u16; 4],
+    pub day: Day,
+    pub hours: [[u16; 2]; 2],
     pub rows: usize,
-    pub list: Rows,
+    pub windows: [Window; 66],
+    // the first row whose window is wrong; 66 if none is
+    pub wrong: usize,
     pub lent: Lists,
     // the sequence's state after the call
     pub state: u64,
-}
-
-#[derive(Clone, Copy)]
-pub struct Rows {
-    pub starts: [u16; 66],
-    pub ends: [u16; 66],
-    // the first row whose window is wrong; 66 if none is
-    pub wrong: usize,
-    state: u64,
 }
 
 // How many places of each list a call is lent.
@@ -39,41 +30,40 @@ pub struct Lists {
 // Days of so many ticks with windows of up to `longest`.
 #[derive(Clone, Copy)]
 struct Days {
-    run: bool,
+    kind: Kind,
     ticks: u16,
     longest: u16,
 }
 
 // In a run a window that ends after R or at its start, in a round one that ends or starts at R.
 fn wrong_window(d: Days, start: u16, late: bool) -> Window {
-    let ticks = d.ticks;
-    if d.run {
-        let end = if late {
-            std::num::wrapping_add_u16(ticks, 1)
-        } else {
-            start
-        };
-        return Window { start, end };
-    }
-    if late {
-        return Window { start, end: ticks };
-    }
-    Window {
-        start: ticks,
-        end: start,
+    match (d.kind, late) {
+        (Kind::Run, true) => Window {
+            start,
+            end: d.ticks.wrapping_add(1),
+        },
+        (Kind::Run, false) => Window { start, end: start },
+        (Kind::Round, true) => Window {
+            start,
+            end: d.ticks,
+        },
+        (Kind::Round, false) => Window {
+            start: d.ticks,
+            end: start,
+        },
     }
 }
 
 // The end of a window of so many ticks: in a run cut off at R, in a round going on from R-1 to 0. After R ticks it is the start.
 fn end_of(d: Days, start: u16, length: u16) -> u16 {
-    let end = std::num::wrapping_add_u16(start, length);
+    let end = start.wrapping_add(length);
     if end < d.ticks {
         return end;
     }
-    if d.run {
-        return d.ticks;
+    match d.kind {
+        Kind::Run => d.ticks,
+        Kind::Round => end.wrapping_sub(d.ticks),
     }
-    std::num::wrapping_sub_u16(end, d.ticks)
 }
 
 // How many ticks a window covers: up to the longest, and for one row in twelve all R, which a run cuts off.
@@ -95,23 +85,15 @@ fn draw_window(d: Days, state: u64, wrong: bool) -> Window {
     }
 }
 
-// Rows of which one may have a wrong window.
-fn draw_rows(d: Days, wrong: usize, state: u64) -> Rows {
-    let mut starts = [0u16; 66];
-    let mut ends = [0u16; 66];
+// Rows of which one may have a wrong window, and the state after them.
+fn draw_rows(d: Days, wrong: usize, state: u64) -> ([Window; 66], u64) {
+    let mut windows = [Window { start: 0, end: 0 }; 66];
     let mut s = state;
     for i in 0..66 {
-        let w = draw_window(d, s, i == wrong);
-        starts[i] = w.start;
-        ends[i] = w.end;
+        windows[i] = draw_window(d, s, i == wrong);
         s = random::next(random::next(s));
     }
-    Rows {
-        starts,
-        ends,
-        wrong,
-        state: s,
-    }
+    (windows, s)
 }
 
 // ---- the setting
@@ -131,20 +113,18 @@ fn draw_gap(ticks: u16, state: u64) -> u16 {
         0 => 601,
         1 => 600,
         2..=7 => 0,
-        8..=13 => from(state, 1, std::num::wrapping_add_u16(ticks, 2)),
+        8..=13 => from(state, 1, ticks.wrapping_add(2)),
         _ => from(state, 1, 3),
     }
 }
 
 // Any hours, of which many are closed, close before they open or close after the day's end.
-fn draw_hours(ticks: u16, state: u64) -> [u16; 4] {
+fn draw_hours(ticks: u16, state: u64) -> [[u16; 2]; 2] {
     let a = random::next(state);
-    let limit = std::num::wrapping_add_u16(ticks, 2);
+    let limit = ticks.wrapping_add(2);
     [
-        below_any(state, limit),
-        below_too(state, limit),
-        below_any(a, limit),
-        below_too(a, limit),
+        [below_any(state, limit), below_too(state, limit)],
+        [below_any(a, limit), below_too(a, limit)],
     ]
 }
 
@@ -156,17 +136,13 @@ fn draw_count(state: u64) -> usize {
         0 => 63,
         1 => 64,
         2 => 65,
-        _ => below_any(state, 8) as usize,
+        _ => usize::from(below_any(state, 8)),
     }
 }
 
 // One place more for the list that the fault names.
 fn places(n: usize, list: u16, fault: u16) -> usize {
-    if list == fault {
-        std::num::wrapping_add_usize(n, 1)
-    } else {
-        n
-    }
+    if list == fault { n.wrapping_add(1) } else { n }
 }
 
 // One call in 16 has a list that is too long.
@@ -185,7 +161,11 @@ fn draw_lists(n: usize, state: u64) -> Lists {
 fn draw_days(state: u64) -> Days {
     let ticks = from(state, 2, 29);
     Days {
-        run: below_too(state, 2) == 0,
+        kind: if below_too(state, 2) == 0 {
+            Kind::Run
+        } else {
+            Kind::Round
+        },
         ticks,
         longest: from(random::next(state), 1, ticks),
     }
@@ -197,9 +177,9 @@ fn draw_wrong(rows: usize, state: u64) -> usize {
         return 66;
     }
     if 60 < rows {
-        return from(state, 60, 5) as usize;
+        return usize::from(from(state, 60, 5));
     }
-    below_any(state, 8) as usize
+    usize::from(below_any(state, 8))
 }
 
 pub fn draw(state: u64) -> Drawn {
@@ -211,15 +191,19 @@ pub fn draw(state: u64) -> Drawn {
     let f = random::next(e);
     let days = draw_days(state);
     let rows = draw_count(a);
-    let list = draw_rows(days, draw_wrong(rows, b), random::next(random::next(f)));
+    let wrong = draw_wrong(rows, b);
+    let (windows, after) = draw_rows(days, wrong, random::next(random::next(f)));
     Drawn {
-        run: days.run,
-        ticks: lent_ticks(days.ticks, c),
-        gap: draw_gap(days.ticks, d),
+        day: Day {
+            kind: days.kind,
+            ticks: lent_ticks(days.ticks, c),
+            gap: draw_gap(days.ticks, d),
+        },
         hours: draw_hours(days.ticks, f),
         rows,
-        list,
+        windows,
+        wrong,
         lent: draw_lists(rows, e),
-        state: list.state,
+        state: after,
     }
 }

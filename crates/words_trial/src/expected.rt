@@ -9,38 +9,26 @@ pub struct Labels {
     pub list: [u8; 64],
 }
 
-// "either writes nothing and gives words of 0"; also what no rows are.
-fn zero_words(number: u8) -> Words {
+// "either writes nothing and gives words of 0"
+fn no_words(number: u8) -> Words {
     Words {
         number,
-        count: 0,
-        heard: 0,
-        receiver: 0,
+        ..Words::default()
     }
 }
 
 // The word of the rows from a row on: the next row's bit is worth twice as much.
 pub fn doubled(word: u64, bit: bool) -> u64 {
-    let twice = std::num::wrapping_add_u64(word, word);
-    if bit {
-        std::num::wrapping_add_u64(twice, 1)
-    } else {
-        twice
-    }
+    word.wrapping_mul(2).wrapping_add(u64::from(bit))
 }
 
 // ---- from labels to words
 
 // One row more below the others, which is heard or not, by receiver 2 or not.
 fn with_row(words: Words, heard: bool, second: bool) -> Words {
-    let count = words.count;
     Words {
         number: 0,
-        count: if heard {
-            std::num::wrapping_add_usize(count, 1)
-        } else {
-            count
-        },
+        count: words.count.wrapping_add(usize::from(heard)),
         heard: doubled(words.heard, heard),
         receiver: doubled(words.receiver, second),
     }
@@ -51,20 +39,18 @@ fn with_label(words: Words, label: u8) -> Words {
         0 => with_row(words, false, false),
         1 => with_row(words, true, false),
         2 => with_row(words, true, true),
-        _ => zero_words(9),
+        _ => no_words(9),
     }
 }
 
 // "9, after 2 for over 64 rows".
 pub fn words_of(labels: &[u8]) -> Words {
     if 64 < labels.len() {
-        return zero_words(2);
+        return no_words(2);
     }
-    let mut words = zero_words(0);
-    let mut i = labels.len();
-    while 0 < i {
-        i -= 1;
-        words = with_label(words, labels[i]);
+    let mut words = Words::default();
+    for label in labels.iter().rev() {
+        words = with_label(words, *label);
         if words.number != 0 {
             return words;
         }
@@ -76,10 +62,12 @@ pub fn words_of(labels: &[u8]) -> Words {
 
 // The label of a row's two bits; 3 for "a receiver bit of a row not heard", which no label says.
 fn label_by(heard: u64, second: u64) -> u8 {
-    if heard == 0 {
-        return if second == 0 { 0 } else { 3 };
+    match (heard, second) {
+        (0, 0) => 0,
+        (0, _) => 3,
+        (_, 0) => 1,
+        _ => 2,
     }
-    if second == 0 { 1 } else { 2 }
 }
 
 // What a row may be labelled, and what stands "from the row count up".
@@ -91,7 +79,7 @@ fn no_labels(number: u8) -> Labels {
     Labels {
         number,
         rows: 0,
-        list: [0u8; 64],
+        list: [0; 64],
     }
 }
 
@@ -99,7 +87,7 @@ pub fn labels_of(heard: u64, receiver: u64, rows: usize) -> Labels {
     if 64 < rows {
         return no_labels(2);
     }
-    let mut list = [0u8; 64];
+    let mut list = [0; 64];
     let mut first = heard;
     let mut second = receiver;
     for i in 0..64 {
@@ -108,8 +96,8 @@ pub fn labels_of(heard: u64, receiver: u64, rows: usize) -> Labels {
             return no_labels(9);
         }
         list[i] = label;
-        first = first / 2;
-        second = second / 2;
+        first /= 2;
+        second /= 2;
     }
     Labels {
         number: 0,
@@ -122,21 +110,16 @@ pub fn labels_of(heard: u64, receiver: u64, rows: usize) -> Labels {
 
 // "the must bit is 1 for marks 1, 3 and 5".
 fn is_must(mark: u8) -> bool {
-    match mark {
-        1 | 3 | 5 => true,
-        _ => false,
-    }
+    matches!(mark, 1 | 3 | 5)
 }
 
 pub fn must_of(marks: &[u8]) -> Must {
     if 64 < marks.len() {
         return Must { number: 2, word: 0 };
     }
-    let mut word: u64 = 0;
-    let mut i = marks.len();
-    while 0 < i {
-        i -= 1;
-        word = doubled(word, is_must(marks[i]));
+    let mut word = 0;
+    for mark in marks.iter().rev() {
+        word = doubled(word, is_must(*mark));
     }
     Must { number: 0, word }
 }

@@ -16,7 +16,7 @@ mod words;
 use carried::Tally;
 use clashes::{Accepted, Pairs, Refused};
 use std::io;
-use trial_report::{print, print_group, print_two, print_words};
+use trial_report::{print, print_group, print_two};
 
 // ---- labels, words and marks
 
@@ -35,15 +35,9 @@ fn print_calls(rt: &impl Print, tally: Tally) -> io::Result<()> {
 }
 
 fn print_lists(rt: &impl Print) -> io::Result<()> {
-    print_words(
-        rt,
-        b"all lists of 0 to 7 labels, then with a 3 at each place\n",
-    )?;
+    rt.write_all(b"all lists of 0 to 7 labels, then with a 3 at each place\n")?;
     print_calls(rt, lists::short())?;
-    print_words(
-        rt,
-        b"63 to 66 rows with one label, and another at each place\n",
-    )?;
+    rt.write_all(b"63 to 66 rows with one label, and another at each place\n")?;
     print_calls(rt, lists::long())
 }
 
@@ -63,15 +57,9 @@ fn print_pairs_of_words(rt: &impl Print, tally: Tally) -> io::Result<()> {
 }
 
 fn print_words_to_labels(rt: &impl Print) -> io::Result<()> {
-    print_words(
-        rt,
-        b"all pairs of words of 5 bits for 0 to 5 rows, and back\n",
-    )?;
+    rt.write_all(b"all pairs of words of 5 bits for 0 to 5 rows, and back\n")?;
     print_pairs_of_words(rt, words::short())?;
-    print_words(
-        rt,
-        b"each bit changed, for row counts on both sides of it\n",
-    )?;
+    rt.write_all(b"each bit changed, for row counts on both sides of it\n")?;
     print_pairs_of_words(rt, words::one_bit())
 }
 

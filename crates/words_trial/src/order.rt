@@ -1,16 +1,12 @@
 // Lists of unequal lengths, and which of several faults of a call for clash words is reported: 1, 2, 4, 14, then 6.
-use table::{Setting, round_setting};
-use trial_calls::first_words;
-use trial_report::{Group, no_cases, with_case};
+use table::Setting;
+use trial_calls::first;
+use trial_report::Group;
 use words_calls::gives_clashes;
 
 // The numbers from `first` on.
 fn words_from(first: u16) -> [u16; 67] {
-    let mut list = [0u16; 67];
-    for i in 0..67 {
-        list[i] = std::num::wrapping_add_u16(first, i as u16);
-    }
-    list
+    std::array::from_fn(|i| first.wrapping_add(i as u16))
 }
 
 fn starts_of(wrong: bool) -> [u16; 67] {
@@ -33,25 +29,25 @@ fn refused(
 ) -> Group {
     let right = gives_clashes(
         setting,
-        first_words(&starts_of(wrong), starts),
-        first_words(&words_from(1), ends),
+        first(&starts_of(wrong), starts),
+        first(&words_from(1), ends),
         words,
         number,
         &[],
     );
-    with_case(group, right)
+    group.with_case(right)
 }
 
 // ---- lists of unequal lengths: one has m places, and the others have n
 
 fn unequal(group: Group, n: usize, m: usize) -> Group {
-    let mut g = refused(group, round_setting(100, 0), m, n, n, false, 1);
-    g = refused(g, round_setting(100, 0), n, m, n, false, 1);
-    refused(g, round_setting(100, 0), n, n, m, false, 1)
+    let mut g = refused(group, Setting::round(100, 0), m, n, n, false, 1);
+    g = refused(g, Setting::round(100, 0), n, m, n, false, 1);
+    refused(g, Setting::round(100, 0), n, n, m, false, 1)
 }
 
 pub fn lists() -> Group {
-    let mut g = unequal(no_cases(), 0, 1);
+    let mut g = unequal(Group::default(), 0, 1);
     g = unequal(g, 1, 0);
     g = unequal(g, 2, 1);
     g = unequal(g, 2, 3);
@@ -73,14 +69,10 @@ fn faulty(
     wrong: bool,
     number: u8,
 ) -> Group {
-    let words = if differ {
-        std::num::wrapping_add_usize(rows, 1)
-    } else {
-        rows
-    };
+    let words = rows.wrapping_add(usize::from(differ));
     refused(
         group,
-        round_setting(ticks, gap),
+        Setting::round(ticks, gap),
         rows,
         rows,
         words,
@@ -91,7 +83,7 @@ fn faulty(
 
 // A fault with each later one, and with all of them.
 pub fn all() -> Group {
-    let mut g = faulty(no_cases(), true, 65, 100, 0, false, 1);
+    let mut g = faulty(Group::default(), true, 65, 100, 0, false, 1);
     g = faulty(g, true, 3, 1, 0, false, 1);
     g = faulty(g, true, 3, 100, 601, false, 1);
     g = faulty(g, true, 3, 100, 0, true, 1);

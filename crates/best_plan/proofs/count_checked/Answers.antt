@@ -1,21 +1,15 @@
--- `best_plan::count_checked` meets its contract: the rows of a checked table fit the arrays.
-use lib.Seq.{length-take-le}
-use mathlib.Core.Path.{sym}
+-- `best_plan::count_checked` meets its contract: the arcs and permissions that are counted for are those of the table.
+use Rattle.std.proofs.Common.{◌∙◌, rules}
+use Rattle.best_plan.proofs.Given.{count_given}
+use Rattle.best_plan.proofs.Rows.{arcs_of, core_lent}
 use Rattle.best_plan.proofs.count_checked.Goals as goal
 
-pub slice_bounds-count_lent-end : goal.slice_bounds-count_lent-end
-slice_bounds-count_lent-end c = sym (length-take-le _ _ c.requires.valid.few)
+pub best_count-best-requires : goal.best_count-best-requires
+best_count-best-requires c =
+    let arcs = arcs_of _ c.set_arcs.ensures (search rules) (search rules) (search rules) in
+    core_lent _ c.requires.valid arcs c.circle_of-circle.ensures c.requires.room
 
-pub slice_bounds-count_lent-end-2 : goal.slice_bounds-count_lent-end-2
-slice_bounds-count_lent-end-2 c = sym (length-take-le _ _ c.requires.valid.few)
-
-pub slice_bounds-count_lent-end-3 : goal.slice_bounds-count_lent-end-3
-slice_bounds-count_lent-end-3 c = sym (length-take-le _ _ c.requires.valid.few)
-
-pub count_lent-requires : goal.count_lent-requires
-count_lent-requires c =
-    let p = c.requires in
-    record {
-      countable = p;
-      arc_lists = record { each_start = length-take-le _ _ p.valid.few; each_length = length-take-le _ _ p.valid.few; each_perm = length-take-le _ _ p.valid.few };
-    }
+pub returns-clause-value : goal.returns-clause-value
+returns-clause-value c =
+    let arcs = arcs_of _ c.set_arcs.ensures (search rules) (search rules) (search rules) in
+    c.count_in.ensures ∙ count_given _ c.requires.valid arcs (rw c.circle_of-circle.ensures at c.best_count-best.ensures.most.0)

@@ -1,25 +1,20 @@
--- `best_plan::count_with` meets its contract: the rows of a checked table and a row more fit the arrays.
-use lib.Seq.{length-take-le}
-use mathlib.Core.Path.{sym, ◌∙◌}
-use Rattle.table.specs.Tables.{table}
-use Rattle.table.proofs.Changes.{rows_with_row}
-use native.Mathlib.Omega.{arith}
+-- `best_plan::count_with` meets its contract: the arcs and permissions that are counted for are those of the table and of the row after it.
+use Rattle.std.proofs.Common.{◌∙◌, rules}
+use Rattle.table.specs.Tables.{lent}
+use Rattle.best_plan.proofs.Given.{count_given}
+use Rattle.best_plan.proofs.Rows.{longer_valid, arcs_with, core_lent}
 use Rattle.best_plan.proofs.count_with.Goals as goal
 
-pub slice_bounds-count_with_lent-end : goal.slice_bounds-count_with_lent-end
-slice_bounds-count_with_lent-end c = sym (length-take-le _ _ (omega (arith, c.requires.longer.few)))
+pub best_count-best-requires : goal.best_count-best-requires
+best_count-best-requires c =
+    let t = lent c.args.table in
+    let e = c.set_arc.ensures in
+    let arcs = arcs_with t c.requires.longer.valid c.args.row c.set_arcs.ensures _ c.len-n.ensures e.starts_after e.lengths_after e.perms_after (search rules) (search rules) (search rules) in
+    core_lent _ (longer_valid t c.args.row c.requires.longer) arcs c.circle_of-circle.ensures c.requires.room
 
-pub slice_bounds-count_with_lent-end-2 : goal.slice_bounds-count_with_lent-end-2
-slice_bounds-count_with_lent-end-2 c = sym (length-take-le _ _ (omega (arith, c.requires.longer.few)))
-
-pub slice_bounds-count_with_lent-end-3 : goal.slice_bounds-count_with_lent-end-3
-slice_bounds-count_with_lent-end-3 c = sym (length-take-le _ _ (omega (arith, c.requires.longer.few)))
-
-pub count_with_lent-requires : goal.count_with_lent-requires
-count_with_lent-requires c =
-    let p = c.requires in
-    let fits = rows_with_row (table c.args.setting c.args.starts.now c.args.ends.now c.args.marks.now) c.args.row in
-    record {
-      countable_with = p;
-      arc_lists = record { each_start = length-take-le _ _ (omega (arith, p.longer.few)) ∙ sym fits; each_length = length-take-le _ _ (omega (arith, p.longer.few)) ∙ sym fits; each_perm = length-take-le _ _ (omega (arith, p.longer.few)) ∙ sym fits };
-    }
+pub returns-clause-value : goal.returns-clause-value
+returns-clause-value c =
+    let t = lent c.args.table in
+    let e = c.set_arc.ensures in
+    let arcs = arcs_with t c.requires.longer.valid c.args.row c.set_arcs.ensures _ c.len-n.ensures e.starts_after e.lengths_after e.perms_after (search rules) (search rules) (search rules) in
+    c.count_in.ensures ∙ count_given _ (longer_valid t c.args.row c.requires.longer) arcs (rw c.circle_of-circle.ensures at c.best_count-best.ensures.most.0)

@@ -2,12 +2,7 @@
 use Rattle.basics.proofs.Filling.{Filled}
 use Rattle.labels.specs.Permission.{label_of}
 use Rattle.basics.specs.Lists.{at}
-use lib.ListN.{length}
-use Prim.Native.Nat.{◌≤◌, ◌-◌}
 use Rattle.best_plan.proofs.set_labels.Given as goal
 
 abbrev pub invariant-loop-i : goal.invariant-loop-i
-invariant-loop-i l = (l.i ≤ length l.perms) × Filled (λ k. label_of (at l.perms k)) l.i l.initial.labels l.labels
-
-abbrev pub decreases-loop-i : goal.decreases-loop-i
-decreases-loop-i l = length l.perms - l.i
+invariant-loop-i l = Filled (λ k. label_of (at l.perms k)) l.i l.initial.labels l.labels

@@ -1,24 +1,11 @@
--- `bit_words::are_labels` meets its contract: the labels passed are labels.
-use mathlib.Core.Path.{◌≡◌, refl, sym}
-use lib.ListN.{length}
-use borrow.Author.Tests.{le-leb, lt-leb}
-use Rattle.basics.specs.Tests.{every}
-use Rattle.basics.proofs.Tests.{every_more, every_fails}
-use native.Mathlib.Omega.{arith}
+-- `bit_words::are_labels` meets its contract.
+use Rattle.std.proofs.Common.{◌∙◌, leb, rules, tests}
+use Rattle.std.proofs.lemmas.Iterator.{YieldsList-from_slice}
+use Rattle.std.proofs.lemmas.Iterator.Search.{all_from_yields_List}
+use Rattle.bit_words.proofs.Carrying.{all_labels}
 use Rattle.bit_words.proofs.are_labels.Goals as goal
-
-pub loop-i-init : goal.loop-i-init
-unfolding every
-loop-i-init c = (omega arith, refl)
-
-pub returns-then-labels-i-gt2 : goal.returns-then-labels-i-gt2
-returns-then-labels-i-gt2 c = every_fails _ c.loop-i.i _ (omega arith) (lt-leb _ _ c.if-labels-i-gt2.true)
-
-pub loop-i-preserved : goal.loop-i-preserved
-loop-i-preserved c = let l = c.loop-i in (omega arith, every_more _ l.i l.invariant.1 (le-leb _ _ c.if-labels-i-gt2.false))
 
 pub returns : goal.returns
 returns c =
-    let l = c.loop-i in
-    let e : l.i ≡ length c.args.labels.now = omega arith in
-    sym (rw e at l.invariant.1)
+    all_from_yields_List (λ x. leb x 2) _ _ _ c.all.ensures.ran (YieldsList-from_slice c.args.labels.now cc) (λ x b q k. search (rules, tests))
+    ∙ all_labels c.args.labels.now

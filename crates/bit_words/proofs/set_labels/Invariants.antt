@@ -1,13 +1,8 @@
 -- `bit_words::set_labels` meets its contract: the rows passed have their labels.
-use Prim.Native.Nat.{◌≤◌, ◌-◌}
-use lib.ListN.{length}
 use Rattle.basics.proofs.Filling.{Filled}
 use Rattle.bit_words.specs.Bits.{is_set}
 use Rattle.bit_words.specs.Words.{label_by}
 use Rattle.bit_words.proofs.set_labels.Given as goal
 
 abbrev pub invariant-loop-i : goal.invariant-loop-i
-invariant-loop-i l = (l.i ≤ length l.initial.labels) × Filled (λ k. label_by (is_set l.heard k) (is_set l.receiver k)) l.i l.initial.labels l.labels
-
-abbrev pub decreases-loop-i : goal.decreases-loop-i
-decreases-loop-i l = length l.initial.labels - l.i
+invariant-loop-i l = Filled (λ k. label_by (is_set l.heard k) (is_set l.receiver k)) l.i l.initial.labels l.labels

@@ -1,35 +1,37 @@
 -- `candidates::try_row` meets its contract: the row is checked as it is lent, and then counted for as one that must be heard.
-use mathlib.Core.Path.{refl, sym, ap, ◌∙◌}
-use native.Mathlib.Omega.{arith}
-use Rattle.refusals.specs.Refusals.{number_of}
-use Rattle.table.specs.Tables.{table}
+use Rattle.std.proofs.Common.{sym, ap, ◌∙◌}
+use Rattle.std.specs.Prelude.{Option, ok_or}
+use Rattle.std.proofs.lemmas.Result.{err_from_is_err_and}
+use Rattle.refusals.specs.declared.Refusal.TheVariants.{NoPlan}
+use Rattle.table.specs.Tables.{lent}
 use Rattle.table.specs.Planned.{best_plan}
 use Rattle.table.specs.Changes.{with_row}
-use Rattle.best_plan.specs.Rows.{count_of}
 use Rattle.window.specs.declared.Row.{Row}
-use Rattle.candidates.specs.Lent.{tried_of}
-use Rattle.candidates.proofs.Trying.{tried_refused, tried_counted, addable}
+use Rattle.best_plan.specs.Rows.{count_of}
+use Rattle.best_plan.proofs.Rows.{longer_valid}
+use Rattle.planner.proofs.Answering.{passed}
+use Rattle.candidates.specs.Lent.{told}
+use Rattle.candidates.proofs.Trying.{tried_refused, tried_counted, addable, told_few}
 use Rattle.candidates.proofs.try_row.Goals as goal
 
-pub returns-then-number-ne0 : goal.returns-then-number-ne0
-returns-then-number-ne0 c =
-    let e = c.number-number.ensures ∙ ap number_of c.check_row-refusal.ensures in
-    record {
-      value = rw e (sym (tried_refused (table c.args.setting c.args.starts.now c.args.ends.now c.args.marks.now) c.args.row c.requires.passed.looked c.requires.below (λ z. c.if-number-ne0.true (e ∙ z))));
-      space_unchanged = refl;
-    }
+pub returns-in_err-check_row-clause-value : goal.returns-in_err-check_row-clause-value
+returns-in_err-check_row-clause-value c =
+    let p = err_from_is_err_and c.from_residual.result c.from_residual.ensures.1 in
+    rw (p.1, p.2) (tried_refused (lent c.args.table) c.args.row c.requires.passed.looked c.requires.below c.check_row.ensures c.in_err-check_row.was)
 
 pub count_with-best-requires : goal.count_with-best-requires
 count_with-best-requires c =
-    let e = c.number-number.ensures ∙ ap number_of c.check_row-refusal.ensures in
-    record { longer = rw c.must_row-must.ensures (addable (table c.args.setting c.args.starts.now c.args.ends.now c.args.marks.now) _ c.requires c.args.row (sym e ∙ c.if-number-ne0.false)); room = omega (arith, c.requires.passed.lent.room) }
+    let longer = addable (lent c.args.table) _ c.requires c.args.row (passed c.check_row.ensures c.in_ok-check_row.was) in
+    record { longer = rw c.must_row.ensures longer; room = c.requires.passed.lent.room }
 
-pub returns : goal.returns
-returns c =
-    let t = table c.args.setting c.args.starts.now c.args.ends.now c.args.marks.now in
-    let e = c.number-number.ensures ∙ ap number_of c.check_row-refusal.ensures in
-    let n = c.count_with-best.ensures in record {
-      value = c.answer_of.ensures ∙ ap tried_of (n.value ∙ ap (λ (r : Row). count_of (best_plan (with_row t r))) c.must_row-must.ensures)
-          ∙ sym (tried_counted t c.args.row c.requires.passed.looked c.requires.below (sym e ∙ c.if-number-ne0.false));
-      space_unchanged = n.space_unchanged;
-    }
+pub returns-clause-value : goal.returns-clause-value
+returns-clause-value c =
+    let t = lent c.args.table in
+    let best = c.count_with-best.ensures.value ∙ ap (λ (r : Row). count_of (best_plan (with_row t r))) c.must_row.ensures in
+    ap told (c.ok_or.ensures.value ∙ ap (λ (o : Option _). ok_or o NoPlan) best)
+    ∙ sym (tried_counted t c.args.row c.requires.passed.looked c.requires.below (passed c.check_row.ensures c.in_ok-check_row.was))
+
+pub returns-clause-few : goal.returns-clause-few
+returns-clause-few c =
+    let longer = addable (lent c.args.table) _ c.requires c.args.row (passed c.check_row.ensures c.in_ok-check_row.was) in
+    told_few _ (longer_valid _ _ (rw c.must_row.ensures longer)) c.count_with-best.ensures.value c.ok_or.ensures.value

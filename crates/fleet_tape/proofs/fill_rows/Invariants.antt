@@ -1,23 +1,12 @@
--- `fleet_tape::fill_rows` meets its contract. The loop's invariant: what the rows from the place on would still write gives the lists that all rows give.
-use Prim.Native.Nat.{◌-◌, ◌≤◌}
-use mathlib.Core.Path.{◌≡◌}
-use lib.ListN.{drop}
-use lib.Seq.{sets}
-use Rattle.basics.specs.Limits.{Places}
-use Rattle.fleet_tape.specs.declared.Scanned.TheVariants.{Count}
-use Rattle.window.specs.Rows.{starts_of, ends_of, marks_of}
-use Rattle.fleet_tape.specs.Form.{rows_in}
-use Rattle.fleet_tape.specs.Scan.{counted, listed}
+-- `fleet_tape::fill_rows` meets its contract. The loop's invariant: the rows before this one are written.
+use Rattle.std.proofs.Common.{◌≡◌}
+use Rattle.fleet_tape.proofs.Rows.{filled}
 use Rattle.fleet_tape.proofs.fill_rows.Given as goal
 
-abbrev pub invariant-loop-row : goal.invariant-loop-row
-invariant-loop-row l =
-    (l.row ≤ l.rows)
-    × Places l.starts l.ends l.marks
-    × (counted (rows_in (drop l.at l.tape)) ≡ Count (l.rows - l.row))
-    × (sets l.initial.starts 0 (starts_of (listed (rows_in (drop l.from l.tape)))) ≡ sets l.starts l.row (starts_of (listed (rows_in (drop l.at l.tape)))))
-    × (sets l.initial.ends 0 (ends_of (listed (rows_in (drop l.from l.tape)))) ≡ sets l.ends l.row (ends_of (listed (rows_in (drop l.at l.tape)))))
-    × (sets l.initial.marks 0 (marks_of (listed (rows_in (drop l.from l.tape)))) ≡ sets l.marks l.row (marks_of (listed (rows_in (drop l.at l.tape)))))
-
-abbrev pub decreases-loop-row : goal.decreases-loop-row
-decreases-loop-row l = l.rows - l.row
+abbrev pub invariant-loop-i : goal.invariant-loop-i
+invariant-loop-i l =
+    record {
+      starts_so_far : l.starts ≡ filled (λ row. row.start) l.rows l.i l.initial.starts;
+      ends_so_far : l.ends ≡ filled (λ row. row.end) l.rows l.i l.initial.ends;
+      marks_so_far : l.marks ≡ filled (λ row. row.mark) l.rows l.i l.initial.marks;
+    }

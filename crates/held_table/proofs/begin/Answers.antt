@@ -1,25 +1,22 @@
 -- `held_table::begin` meets its contract: each check in its turn.
-use mathlib.Core.Path.{◌≡◌, sym, ◌∙◌}
-use Rattle.refusals.specs.Refusals.{number_of}
-use Rattle.refusals.proofs.Refusals.{then_first, then_next}
+use Rattle.std.proofs.Common.{sym, ◌∙◌}
+use Rattle.std.proofs.lemmas.Result.{err_from_is_err_and}
+use Rattle.refusals.proofs.Refusals.{refused_first, passed_next}
 use Rattle.held_table.proofs.Beginning.{refused_begun, accepted_begun}
 use Rattle.held_table.proofs.begin.Goals as goal
 
-pub returns-then-number-ne0 : goal.returns-then-number-ne0
-returns-then-number-ne0 c =
-    let n : number_of c.check_ticks-refusal.result ≡ 0 → ⊥ = λ z. c.if-number-ne0.true (c.number.ensures ∙ z) in
-    c.empty.ensures ∙ refused_begun _ _ _ (then_first c.check_ticks-refusal.ensures _ n) n
+pub returns-in_err-check_ticks : goal.returns-in_err-check_ticks
+returns-in_err-check_ticks c =
+    let p = err_from_is_err_and c.from_residual.result c.from_residual.ensures.1 in
+    rw (p.1, p.2) (refused_begun c.args.ticks c.args.gap (refused_first c.check_ticks.ensures c.in_err-check_ticks.was _))
 
-pub returns-then-number-ne0-2 : goal.returns-then-number-ne0-2
-returns-then-number-ne0-2 c =
-    let n : number_of c.check_gap-refusal2.result ≡ 0 → ⊥ = λ z. c.if-number-ne0-2.true (c.number-2.ensures ∙ z) in
-    c.empty-then-number-ne0-2.ensures
-    ∙ refused_begun _ _ _
-    (then_next c.check_ticks-refusal.ensures (sym c.number.ensures ∙ c.if-number-ne0.false) c.check_gap-refusal2.ensures) n
+pub returns-in_err-check_gap : goal.returns-in_err-check_gap
+returns-in_err-check_gap c =
+    let p = err_from_is_err_and c.from_residual-in_err-check_gap.result c.from_residual-in_err-check_gap.ensures.1 in
+    rw (p.1, p.2)
+    (refused_begun c.args.ticks c.args.gap (passed_next c.check_ticks.ensures c.in_ok-check_ticks.was (sym c.in_err-check_gap.was ∙ c.check_gap.ensures)))
 
 pub returns : goal.returns
 returns c =
-    let p = sym c.number-2.ensures ∙ c.if-number-ne0-2.false in
-    c.empty-2.ensures
-    ∙ accepted_begun _ _ _
-    (then_next c.check_ticks-refusal.ensures (sym c.number.ensures ∙ c.if-number-ne0.false) c.check_gap-refusal2.ensures) p
+    rw c.empty.ensures
+    (accepted_begun c.args.ticks c.args.gap (passed_next c.check_ticks.ensures c.in_ok-check_ticks.was (sym c.in_ok-check_gap.was ∙ c.check_gap.ensures)))

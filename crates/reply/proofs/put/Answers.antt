@@ -1,28 +1,18 @@
--- `reply::put` meets its contract. The loop's invariant: the first i bytes are put, and `at` is the place after them. The measure is how many bytes are left.
-use native.Mathlib.Omega.{arith}
-use lib.Seq.{take_all, length-take-le}
-use Rattle.basics.proofs.Puts.{put_none, put_more, put_text, put_length}
-use borrow.Author.Rules.{rules}
+-- `reply::put` meets its contract: what is copied between the bytes before and after is what `sets` stores.
+use Rattle.std.proofs.Common.{refl, sym, ◌∙◌, ◌+◌, arith, length, take, drop}
+use mathlib.Core.List.{append_assoc}
+use Rattle.std.proofs.lemmas.List.Edits.{sets-eq, paste_all}
+use Rattle.std.proofs.lemmas.Slice.{put_mid-paste}
 use Rattle.reply.proofs.put.Goals as goal
 
-pub loop-i-init : goal.loop-i-init
-loop-i-init c = (search rules, put_none _ _)
-
-pub bounds-out-at : goal.bounds-out-at
-bounds-out-at c =
-    let l = c.loop-i in
-    omega (arith, l.invariant.1.ends, put_length l.invariant.1, length-take-le l.i c.args.bytes.now l.invariant.0)
-
-pub overflow_add-at : goal.overflow_add-at
-overflow_add-at c =
-    let l = c.loop-i in
-    omega (arith, l.invariant.1.ends, length-take-le l.i c.args.bytes.now l.invariant.0)
-
-pub loop-i-preserved : goal.loop-i-preserved
-loop-i-preserved c = (omega arith, put_more c.args.bytes.now c.loop-i.i c.loop-i.invariant.1 c.loop-i-test.true)
-
-pub shape_of-out : goal.shape_of-out
-shape_of-out c = put_length c.loop-i.invariant.1
-
 pub returns : goal.returns
-returns c = put_text (take_all c.loop-i.i c.args.bytes.now c.loop-i-test.false) c.loop-i.invariant.1
+returns c =
+    let a = c.args in
+    let bytes = a.bytes.now in
+    record {
+      stored =
+          put_mid-paste a.place _ a.out.now _ bytes (length bytes) c.copy_from_slice.ensures.after (omega arith) refl
+          ∙ paste_all a.out.now a.place bytes (length bytes) refl
+          ∙ sym (sets-eq bytes a.out.now a.place c.requires.fits ∙ append_assoc (take a.place a.out.now) bytes (drop (a.place + length bytes) a.out.now));
+      ends = refl;
+    }

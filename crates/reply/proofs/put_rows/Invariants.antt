@@ -1,13 +1,9 @@
--- `reply::put_rows` meets its contract. The loop's invariant: the lines of the first rows are put, and there is room for the others. The measure is how many rows are left.
-use Prim.Native.Nat.{◌+◌, ◌-◌, ◌*◌, ◌≤◌}
-use lib.ListN.{length, take}
+-- `reply::put_rows` meets its contract. The loop's invariant: the lines of the first rows are put, and there is room for the others.
+use Rattle.std.proofs.Common.{◌+◌, ◌-◌, ◌*◌, ◌≤◌, length, take}
 use Rattle.basics.specs.Lists.{Put}
 use Rattle.reply.specs.Lines.{row_lines}
 use Rattle.reply.proofs.put_rows.Given as goal
 
 abbrev pub invariant-loop-row : goal.invariant-loop-row
 invariant-loop-row l =
-    (l.row ≤ length l.labels) × Put l.initial.out l.place (row_lines 0 (take l.row l.labels)) l.out l.at × (l.at + 6 * (length l.labels - l.row) ≤ length l.initial.out)
-
-abbrev pub decreases-loop-row : goal.decreases-loop-row
-decreases-loop-row l = length l.labels - l.row
+    Put l.initial.out l.place (row_lines 0 (take l.row l.labels)) l.out l.at × (l.at + 6 * (length l.labels - l.row) ≤ length l.initial.out)

@@ -1,7 +1,7 @@
 -- `reply::reply` meets its contract: each way through the tests of the lengths is a way to compute `replied`.
+use Rattle.refusals.specs.Refusals.{Form}
 use mathlib.Core.Path.{refl, ◌∙◌}
 use native.Mathlib.Omega.{arith}
-use Rattle.refusals.specs.declared.Refusal.TheVariants.{Form}
 use Rattle.reply.specs.Replied.{places}
 use Rattle.reply.proofs.Replying.{refusal_replied, out_short, tape_long, tape_read, replied_within}
 use Rattle.reply.proofs.reply.Goals as goal

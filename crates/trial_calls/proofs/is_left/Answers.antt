@@ -6,4 +6,4 @@ use Rattle.trial_calls.proofs.is_left.Goals as goal
 pub returns : goal.returns
 returns c =
     c.is_written.ensures
-    ∙ ap (is_written _) (c.first_bytes.ensures ∙ ap (λ n. take n (replicate 4608 0)) c.cleared.ensures)
+    ∙ ap (is_written _) (c.first.ensures ∙ ap (λ n. take n (replicate 4608 0)) c.cleared.ensures)

@@ -1,16 +1,9 @@
 -- `words_calls::is_written` meets its contract: the places passed hold what is to stand there.
-use mathlib.Core.Path.{◌≡◌}
-use mathlib.Core.Bool.{true}
-use Prim.Native.Nat.{◌≤◌, ◌-◌}
-use lib.Dec.{eqb}
-use lib.ListN.{length}
+use Rattle.std.proofs.Common.{◌≡◌, true, eqb}
 use Rattle.basics.specs.Lists.{at}
 use Rattle.basics.specs.Tests.{every}
 use Rattle.trial_calls.specs.Judged.{written_at}
 use Rattle.words_calls.proofs.is_written.Given as goal
 
 abbrev pub invariant-loop-i : goal.invariant-loop-i
-invariant-loop-i l = (l.i ≤ length l.list) × (every l.i (λ k. eqb (at l.list k) (written_at l.first k)) ≡ true)
-
-abbrev pub decreases-loop-i : goal.decreases-loop-i
-decreases-loop-i l = length l.list - l.i
+invariant-loop-i l = every l.i (λ k. eqb (at l.list k) (written_at l.first k)) ≡ true

@@ -1,5 +1,5 @@
 -- `words_calls::written_at` meets its contract, from what the test told.
-use borrow.Author.Tests.{lt-ltb, le-ltb}
+use Rattle.std.proofs.Common.{le-ltb, lt-ltb}
 use Rattle.words_calls.proofs.written_at.Goals as goal
 
 pub returns-then-i-first : goal.returns-then-i-first

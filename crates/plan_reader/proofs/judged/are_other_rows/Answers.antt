@@ -1,38 +1,20 @@
--- `plan_reader::judged::are_other_rows` meets its contract. The loop's invariant: what is left to ask is asked of the LISTENs from the place on. The measure is what is left of the tape.
-use mathlib.Core.Path.{refl, sym, ◌∙◌}
-use native.Mathlib.Omega.{arith}
-use borrow.Enum.Refused.{opened}
-use borrow.Author.Tests.{not-true, not-false}
-use Rattle.plan_reader.specs.Judged.{are_other}
-use Rattle.plan_reader.proofs.Listens.{listen_at_of, no_listen}
+-- `plan_reader::judged::are_other_rows` meets its contract: the walk gives each LISTEN.
+use Rattle.std.proofs.Common.{◌≡◌, List, [], ◌∷◌, ◌&&◌, rules, tests, refl, ap, ◌∙◌}
+use Rattle.std.specs.List.{list_all}
+use Rattle.std.proofs.lemmas.Iterator.Search.{all_from_yields_List}
+use Rattle.std.proofs.lemmas.Iterator.Consumers.{YieldsList-from_first}
+use Rattle.plan_tape.specs.Stated.{Listen}
+use Rattle.plan_reader.specs.Items.{stated_listen}
+use Rattle.plan_reader.specs.Judged.{listens_left, is_other, are_other}
 use Rattle.plan_reader.proofs.judged.are_other_rows.Goals as goal
 
-pub returns-in_default : goal.returns-in_default
+all_other : (ws us : List Listen) → list_all (λ w. list_all (is_other w.row) us) ws ≡ are_other ws us
 unfolding are_other
-returns-in_default c =
-    let l = c.loop-row in
-    let a = c.args in
-    sym (l.invariant ∙ rw (no_listen a.tape.now l.at c.item_at-item.ensures (opened c.in_default.in_default-own.keys2)).listens refl)
+all_other [] us = refl
+all_other (w ∷ ws) us = ap (λ b. list_all (is_other w.row) us && b) (all_other ws us)
 
-pub returns-then-not-is_row_free : goal.returns-then-not-is_row_free
-unfolding are_other
-returns-then-not-is_row_free c =
-    let l = c.loop-row in
-    let a = c.args in
-    let w = listen_at_of a.tape.now l.at _ _ _ _ c.item_at-item.ensures c.in-Listen.is in
-    sym (l.invariant ∙ rw (w.listens, sym c.is_row_free.ensures ∙ not-true _ c.if-not-is_row_free.true-raw) refl)
-
-pub loop-row-smaller : goal.loop-row-smaller
-loop-row-smaller c =
-    let l = c.loop-row in
-    let a = c.args in
-    let w = listen_at_of a.tape.now l.at _ _ _ _ c.item_at-item.ensures c.in-Listen.is in
-    omega (arith, w.further, w.inside)
-
-pub loop-row-preserved : goal.loop-row-preserved
-unfolding are_other
-loop-row-preserved c =
-    let l = c.loop-row in
-    let a = c.args in
-    let w = listen_at_of a.tape.now l.at _ _ _ _ c.item_at-item.ensures c.in-Listen.is in
-    l.invariant ∙ rw (w.listens, sym c.is_row_free.ensures ∙ not-false _ c.if-not-is_row_free.false-raw) refl
+pub returns : goal.returns
+returns c =
+    let us = listens_left c.args.others in
+    all_from_yields_List {s = c.args.listens} (λ w. list_all (is_other w.row) us) c.all.new.self _ c.all.result c.all.ensures.ran (YieldsList-from_first stated_listen listens_left {s = c.args.listens} _ refl) (λ x b q k. search (rules, tests))
+    ∙ all_other (listens_left c.args.listens) us

@@ -1,13 +1,10 @@
--- `plan_reader::judged::is_part` meets its contract. The loop's invariant: what is left to ask is asked of the LISTENs from the place on. The measure is what is left of the tape.
-use Prim.Native.Nat.{◌-◌}
-use mathlib.Core.Path.{◌≡◌}
-use lib.ListN.{length, drop}
-use Rattle.plan_tape.specs.Stated.{listens_in}
-use Rattle.plan_reader.specs.Judged.{is_part}
+-- `plan_reader::judged::is_part` meets its contract: what is left to ask is asked of the LISTENs that are left.
+use Rattle.std.proofs.Common.{◌≡◌, length}
+use Rattle.plan_reader.specs.Judged.{listens_left, is_part}
 use Rattle.plan_reader.proofs.judged.is_part.Given as goal
 
-abbrev pub invariant-loop-row : goal.invariant-loop-row
-invariant-loop-row l = is_part l.kind l.ticks (listens_in (drop l.from l.tape)) ≡ is_part l.kind l.ticks (listens_in (drop l.at l.tape))
+abbrev pub invariant-loop-listen : goal.invariant-loop-listen
+invariant-loop-listen l = is_part l.head.kind l.head.ticks (listens_left l.fn.listens) ≡ is_part l.head.kind l.head.ticks (listens_left l.listens)
 
-abbrev pub decreases-loop-row : goal.decreases-loop-row
-decreases-loop-row l = length l.tape - l.at
+abbrev pub decreases-loop-listen : goal.decreases-loop-listen
+decreases-loop-listen l = length (listens_left l.listens)

@@ -1,38 +1,10 @@
--- `plan_reader::judged::is_row_free` meets its contract. The loop's invariant: what is left to ask is asked of the LISTENs from the place on. The measure is what is left of the tape.
-use mathlib.Core.Path.{refl, sym, ◌∙◌}
-use native.Mathlib.Omega.{arith}
-use borrow.Enum.Refused.{opened}
-use borrow.Author.Tests.{eq-eqb, ne_eqb}
-use Rattle.plan_reader.specs.Judged.{all_of}
-use Rattle.plan_reader.proofs.Listens.{listen_at_of, no_listen}
+-- `plan_reader::judged::is_row_free` meets its contract: the walk gives each LISTEN.
+use Rattle.std.proofs.Common.{rules, tests, refl}
+use Rattle.std.proofs.lemmas.Iterator.Search.{all_from_yields_List}
+use Rattle.std.proofs.lemmas.Iterator.Consumers.{YieldsList-from_first}
+use Rattle.plan_reader.specs.Items.{stated_listen}
+use Rattle.plan_reader.specs.Judged.{listens_left, is_other}
 use Rattle.plan_reader.proofs.judged.is_row_free.Goals as goal
 
-pub returns-in_default : goal.returns-in_default
-unfolding all_of
-returns-in_default c =
-    let l = c.loop-other in
-    let a = c.args in
-    sym (l.invariant ∙ rw (no_listen a.tape.now l.at c.item_at-item.ensures (opened c.in_default.in_default-own.keys2)).listens refl)
-
-pub returns-then-row-other : goal.returns-then-row-other
-unfolding all_of
-returns-then-row-other c =
-    let l = c.loop-other in
-    let a = c.args in
-    let w = listen_at_of a.tape.now l.at _ _ _ _ c.item_at-item.ensures c.in-Listen.is in
-    sym (l.invariant ∙ rw (w.listens, eq-eqb _ _ c.if-row-other.true) refl)
-
-pub loop-other-smaller : goal.loop-other-smaller
-loop-other-smaller c =
-    let l = c.loop-other in
-    let a = c.args in
-    let w = listen_at_of a.tape.now l.at _ _ _ _ c.item_at-item.ensures c.in-Listen.is in
-    omega (arith, w.further, w.inside)
-
-pub loop-other-preserved : goal.loop-other-preserved
-unfolding all_of
-loop-other-preserved c =
-    let l = c.loop-other in
-    let a = c.args in
-    let w = listen_at_of a.tape.now l.at _ _ _ _ c.item_at-item.ensures c.in-Listen.is in
-    l.invariant ∙ rw (w.listens, ne_eqb _ _ c.if-row-other.false) refl
+pub returns : goal.returns
+returns c = all_from_yields_List {s = c.args.listens} (is_other c.args.row) c.all.new.self _ c.all.result c.all.ensures.ran (YieldsList-from_first stated_listen listens_left {s = c.args.listens} _ refl) (λ x b q k. search (rules, tests))

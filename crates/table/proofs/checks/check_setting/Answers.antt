@@ -1,23 +1,21 @@
 -- `table::checks::check_setting` meets its contract: each check in its turn.
-use mathlib.Core.Path.{sym, ap, ◌∙◌}
-use Rattle.refusals.proofs.Refusals.{then_first, then_next}
-use Rattle.table.specs.Checks.{hours_refusal, setting_refusal}
+use Rattle.std.proofs.lemmas.Result.{err_from_is_err_and}
+use Rattle.refusals.proofs.Refusals.{refused_first, passed_next}
+use Rattle.table.specs.Checks.{setting_refusal}
 use Rattle.table.proofs.checks.check_setting.Goals as goal
 
-pub returns-then-number-ne0 : goal.returns-then-number-ne0
+pub returns-in_err-check_ticks : goal.returns-in_err-check_ticks
 unfolding setting_refusal
-returns-then-number-ne0 c = then_first c.check_ticks-refusal.ensures _ (λ z. c.if-number-ne0.true (c.number.ensures ∙ z))
+returns-in_err-check_ticks c =
+    let p = err_from_is_err_and c.from_residual.result c.from_residual.ensures.1 in
+    rw (p.1, p.2) (refused_first c.check_ticks.ensures c.in_err-check_ticks.was _)
 
-pub returns-then-number-ne0-2 : goal.returns-then-number-ne0-2
+pub returns-in_err-check_hours : goal.returns-in_err-check_hours
 unfolding setting_refusal
-returns-then-number-ne0-2 c =
-    let setting = c.args.setting in
-    then_next c.check_ticks-refusal.ensures (sym c.number.ensures ∙ c.if-number-ne0.false)
-    (then_first (c.check_hours-refusal2.ensures ∙ ap (hours_refusal setting.kind setting.ticks) c.hours_in.ensures) _ (λ z. c.if-number-ne0-2.true (c.number-2.ensures ∙ z)))
+returns-in_err-check_hours c =
+    let p = err_from_is_err_and c.from_residual-in_err-check_hours.result c.from_residual-in_err-check_hours.ensures.1 in
+    rw (p.1, p.2) (passed_next c.check_ticks.ensures c.in_ok-check_ticks.was (refused_first c.check_hours.ensures c.in_err-check_hours.was _))
 
 pub returns : goal.returns
 unfolding setting_refusal
-returns c =
-    let setting = c.args.setting in
-    then_next c.check_ticks-refusal.ensures (sym c.number.ensures ∙ c.if-number-ne0.false)
-    (then_next (c.check_hours-refusal2.ensures ∙ ap (hours_refusal setting.kind setting.ticks) c.hours_in.ensures) (sym c.number-2.ensures ∙ c.if-number-ne0-2.false) c.check_gap.ensures)
+returns c = passed_next c.check_ticks.ensures c.in_ok-check_ticks.was (passed_next c.check_hours.ensures c.in_ok-check_hours.was c.check_gap.ensures)

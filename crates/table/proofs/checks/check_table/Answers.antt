@@ -1,13 +1,18 @@
 -- `table::checks::check_table` meets its contract.
-use Rattle.table.specs.Checks.{table_looked}
+use Rattle.std.proofs.Common.{sym, ◌∙◌, refl}
 use borrow.Author.Tests.{eq-eqb, ne_eqb}
-use mathlib.Core.Path.{sym, ◌∙◌}
+use Rattle.refusals.proofs.Refusals.{err_refuses, ok_passes}
+use Rattle.table.specs.Checks.{table_looked}
 use Rattle.table.proofs.checks.check_table.Goals as goal
 
-pub returns-then-number-ne0 : goal.returns-then-number-ne0
+pub returns-then-is_err : goal.returns-then-is_err
 unfolding table_looked
-returns-then-number-ne0 c = c.looked_at.ensures ∙ simp (sym c.check_setting-refusal.ensures, sym c.number.ensures, ne_eqb _ _ c.if-number-ne0.true)
+returns-then-is_err c =
+    let r = c.check_setting-refusal in
+    rw (← r.ensures, ne_eqb _ 0 (err_refuses r.result (sym c.is_err.ensures.value ∙ c.if-is_err.true))) refl
 
 pub returns : goal.returns
 unfolding table_looked
-returns c = simp (sym c.check_setting-refusal.ensures, sym c.number.ensures, eq-eqb _ _ c.if-number-ne0.false) c.check_rows.ensures
+returns c =
+    let r = c.check_setting-refusal in
+    rw (← r.ensures, eq-eqb _ 0 (ok_passes r.result (sym c.is_err.ensures.value ∙ c.if-is_err.false))) c.check_rows.ensures

@@ -1,19 +1,8 @@
 -- `table::plan::is_plan` meets its contract: the rows passed fit.
-use Rattle.table.specs.Tables.{table, is_fit}
+use Rattle.std.proofs.Common.{◌≡◌, true, length}
 use Rattle.basics.specs.Tests.{every}
-use lib.ListN.{length}
-use mathlib.Core.Bool.{true}
-use mathlib.Core.Path.{◌≡◌}
-use Prim.Native.Nat.{◌≤◌, ◌-◌}
+use Rattle.table.specs.Tables.{lent, rows, is_even, is_fit}
 use Rattle.table.proofs.plan.is_plan.Given as goal
 
 abbrev pub invariant-loop-i : goal.invariant-loop-i
-invariant-loop-i l =
-    (l.i ≤ length l.starts)
-    × (length l.ends ≡ length l.starts)
-    × (length l.marks ≡ length l.starts)
-    × (length l.labels ≡ length l.starts)
-    × (every l.i (is_fit (table l.setting l.starts l.ends l.marks) l.labels) ≡ true)
-
-abbrev pub decreases-loop-i : goal.decreases-loop-i
-decreases-loop-i l = length l.starts - l.i
+invariant-loop-i l = (is_even (lent l.table) ≡ true) × (length l.labels ≡ rows (lent l.table)) × (every l.i (is_fit (lent l.table) l.labels) ≡ true)

@@ -1,9 +1,0 @@
--- `fleet_tape_trial::held::pattern_marks` is safe and ends: each place in turn.
-use Rattle.std.proofs.Common.{◌-◌, ◌≤◌}
-use Rattle.fleet_tape_trial.proofs.held.pattern_marks.Given as goal
-
-abbrev pub invariant-loop-i : goal.invariant-loop-i
-invariant-loop-i l = l.i ≤ 65
-
-abbrev pub decreases-loop-i : goal.decreases-loop-i
-decreases-loop-i l = 65 - l.i

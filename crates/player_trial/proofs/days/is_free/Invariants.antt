@@ -1,5 +1,0 @@
--- `player_trial::days::is_free` is safe and ends, walking the window tick by tick.
-use Rattle.player_trial.proofs.days.is_free.Given as goal
-
-abbrev pub decreases-loop-left : goal.decreases-loop-left
-decreases-loop-left l = l.left

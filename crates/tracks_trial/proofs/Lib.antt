@@ -1,2 +1,0 @@
--- Laws of the program `tracks_trial`.
-pub mod Laws
