@@ -1,5 +1,5 @@
 -- Believed: A held table (request 5 of paper 02): where it lies, the table and the plan that it holds, and what each call gives, whole, on every input.
-use Rattle.std.specs.Prelude.{ℕ, cond, ◌&&◌, List, leb, ltb, eqb, length, take, Result, Ok, Err}
+use Rattle.std.specs.Prelude.{ℕ, ◌≡◌, cond, ◌&&◌, List, leb, ltb, eqb, length, take, Result, Ok, Err}
 use Rattle.basics.specs.Limits.{max_rows, has_places}
 use Rattle.basics.specs.Lists.{front}
 use Rattle.window.specs.declared.Kind.TheVariants.{Round}
@@ -12,6 +12,7 @@ use Rattle.table.specs.Checks.{ticks_refusal, gap_refusal}
 use Rattle.table.specs.Planned.{space_refusal, Planned, planned, space_after}
 use Rattle.table.specs.Changes.{with_row, without_row}
 use Rattle.held_table.specs.declared.Numbers.{Numbers}
+use Rattle.held_table.specs.declared.Held.{Held}
 
 -- ---- where it lies
 
@@ -28,6 +29,16 @@ pub record HeldTable : Type 0 where
 
 abbrev pub kept : Numbers → List ℕ → List ℕ → List ℕ → List ℕ → HeldTable
 kept numbers starts ends marks labels = record { numbers = numbers; starts = starts; ends = ends; marks = marks; labels = labels }
+
+-- the held table that code is lent, with the list of its labels
+abbrev pub held : Held → List ℕ → HeldTable
+held h labels = kept h.numbers h.starts.now h.ends.now h.marks.now labels
+
+-- it lies in the same lists, changed or not
+pub record Same (old new : Held) : Type 0 where
+  pub starts : new.starts.ghost_name ≡ old.starts.ghost_name
+  pub ends : new.ends.ghost_name ≡ old.ends.ghost_name
+  pub marks : new.marks.ghost_name ≡ old.marks.ghost_name
 
 -- the table that is held, of "a round of stated R and g"
 abbrev pub held_table : HeldTable → Table

@@ -1,25 +1,15 @@
--- Inner: A held table as code is lent it, and what the functions of the crate `held_table` lend each other.
-use Rattle.std.specs.Prelude.{ℕ, ◌≤◌, ◌<◌, ◌≡◌, List, length, take}
+-- Inner: What the functions of the crate `held_table` lend each other.
+use Rattle.std.specs.Prelude.{ℕ, ◌≤◌, ◌<◌, List, length, take}
 use Rattle.basics.specs.Limits.{max_rows, Places}
 use Rattle.window.specs.declared.Kind.TheVariants.{Round}
 use Rattle.window.specs.Hours.{no_hours}
 use Rattle.table.specs.Tables.{Table, table, rows, setting_of}
 use Rattle.table.specs.Planned.{planned}
 use Rattle.held_table.specs.declared.Held.{Held}
-use Rattle.held_table.specs.Held.{HeldTable, kept, taken, HeldCall, called}
+use Rattle.held_table.specs.Held.{HeldTable, taken, HeldCall, called}
 use Rattle.held_table.specs.Came.{HasPlaces}
 
--- the held table that code is lent, with the list of its labels
-abbrev pub held : Held → List ℕ → HeldTable
-held h labels = kept h.numbers h.starts.now h.ends.now h.marks.now labels
-
--- it lies in the same lists, changed or not
-pub record Same (old new : Held) : Type 0 where
-  pub starts : new.starts.ghost_name ≡ old.starts.ghost_name
-  pub ends : new.ends.ghost_name ≡ old.ends.ghost_name
-  pub marks : new.marks.ghost_name ≡ old.marks.ghost_name
-
--- its first n rows, of its round
+-- the first n rows of a held table, of its round
 abbrev pub first_rows : ℕ → Held → Table
 first_rows n h = table (setting_of Round h.numbers.ticks h.numbers.gap no_hours) (take n h.starts.now) (take n h.ends.now) (take n h.marks.now)
 

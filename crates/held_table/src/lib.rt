@@ -7,9 +7,9 @@ ghost use Rattle.refusals.specs.Refusals.{answer_of};
 ghost use Rattle.table.specs.Tables.{RowIn, row_of, lent};
 ghost use Rattle.table.specs.Planned.{called, plan_call};
 ghost use Rattle.table.specs.Changes.{with_row, without_row};
-ghost use Rattle.held_table.specs.Held.{numbers_of, begun_as, begun, places_refusal, add_first, withdraw_first, held_table, change, gave, add_call, withdraw_call};
+ghost use Rattle.held_table.specs.Held.{held, Same, numbers_of, begun_as, begun, places_refusal, add_first, withdraw_first, held_table, change, gave, add_call, withdraw_call};
 ghost use Rattle.held_table.specs.Came.{Came, AddRequest5, WithdrawRequest5};
-ghost use Rattle.held_table.specs.Lent.{held, Same, first_rows, FirstRows, RoomFor, RowHeld, plan_rows};
+ghost use Rattle.held_table.specs.Lent.{first_rows, FirstRows, RoomFor, RowHeld, plan_rows};
 
 use basics::MAX_ROWS;
 use best_plan::SPACE_BYTES;

@@ -2,7 +2,7 @@
 use Rattle.std.proofs.Common.{sym, ap, ◌∙◌}
 use Rattle.std.proofs.lemmas.Result.{err_from_is_err_and}
 use Rattle.refusals.specs.Refusals.{number_of}
-use Rattle.held_table.specs.Lent.{held}
+use Rattle.held_table.specs.Held.{held}
 use Rattle.held_table.proofs.Request5.{add_said}
 use Rattle.held_table.proofs.Answering.{room_for, add_refused, add_planned}
 use Rattle.held_table.proofs.Held.add.Goals as goal

@@ -2,7 +2,7 @@
 use Rattle.std.proofs.Common.{sym, ap, ◌∙◌}
 use Rattle.std.proofs.lemmas.Result.{err_from_is_err_and}
 use Rattle.refusals.specs.Refusals.{number_of}
-use Rattle.held_table.specs.Lent.{held}
+use Rattle.held_table.specs.Held.{held}
 use Rattle.held_table.proofs.Request5.{withdraw_said}
 use Rattle.held_table.proofs.Answering.{row_held, withdraw_refused, withdraw_planned}
 use Rattle.held_table.proofs.Held.withdraw.Goals as goal

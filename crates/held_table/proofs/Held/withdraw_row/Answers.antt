@@ -7,7 +7,7 @@ use Rattle.table.specs.Changes.{without_row}
 use Rattle.row_lists.specs.Moved.{moved_up, moved_down}
 use Rattle.row_lists.proofs.Moving.{row_in}
 use Rattle.held_table.specs.Held.{held_table}
-use Rattle.held_table.specs.Lent.{held}
+use Rattle.held_table.specs.Held.{held}
 use Rattle.held_table.proofs.Planning.{rows_taken, rows_kept}
 use Rattle.held_table.proofs.Withdrawing.{places_kept, length_up, length_down, moved_back, rest_rows}
 use Rattle.held_table.proofs.Held.withdraw_row.Goals as goal
