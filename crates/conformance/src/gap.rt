@@ -19,6 +19,17 @@ struct Pair {
     end2: u16,
 }
 
+impl Pair {
+    fn setting(self, gap: u16) -> Setting {
+        Setting {
+            kind: self.kind,
+            ticks: 10,
+            gap,
+            hours: [[0, 10], [0, 10]],
+        }
+    }
+}
+
 fn round(start: u16, end: u16, start2: u16, end2: u16) -> Pair {
     Pair {
         kind: Kind::Round,
@@ -41,14 +52,8 @@ fn run(start: u16, end: u16, start2: u16, end2: u16) -> Pair {
 
 // The planner's answer, where the rows have these marks.
 fn is_heard(p: Pair, gap: u16, mark: u8, mark2: u8, number: u8, labels: &[u8]) -> bool {
-    let kind = p.kind;
     is_planned(
-        Setting {
-            kind,
-            ticks: 10,
-            gap,
-            hours: [[0, 10], [0, 10]],
-        },
+        p.setting(gap),
         Rows {
             starts: &[p.start, p.start2],
             ends: &[p.end, p.end2],
@@ -63,14 +68,8 @@ fn is_heard(p: Pair, gap: u16, mark: u8, mark2: u8, number: u8, labels: &[u8]) -
 
 // The plan tape writer's answer for the first row on receiver 1 and the second with this label, with so many bytes for the tape.
 fn is_written(p: Pair, gap: u16, label2: u8, bytes: usize, number: u8, tape: &[u8]) -> bool {
-    let kind = p.kind;
     is_taped(
-        Setting {
-            kind,
-            ticks: 10,
-            gap,
-            hours: [[0, 10], [0, 10]],
-        },
+        p.setting(gap),
         Rows {
             starts: &[p.start, p.start2],
             ends: &[p.end, p.end2],

@@ -2,7 +2,6 @@
 use table::{Rows, Setting};
 use trial_calls::{LENT_BYTES, first, in_round, is_planned, is_taped, run};
 use trial_report::Group;
-use window::Kind;
 
 // A table with a row of start and end 3 and mark 9, in a run with the hours p–10 and 0–10 and a gap.
 fn faulty(group: Group, ticks: u16, p: u16, gap: u16, bytes: usize, number: u8) -> Group {

@@ -12,7 +12,7 @@ ghost use Rattle.plan_tape.specs.Written.{written};
 ghost use Rattle.fleet_tape.specs.Reading.{fleet_read, report_of};
 ghost use Rattle.player.specs.Played.{player_at, stepped, started};
 ghost use Rattle.reply.specs.Replied.{replying, replied};
-ghost use Rattle.hub_c.specs.Handed.{handed, is_run, handed_report, plan_gave, handed_plan, tape_gave, handed_tape, read_gave, handed_read, handed_player, handed_receiver, handed_started, handed_stepped, handed_numbers, numbers_from, handed_begun, handed_change, held_gave, handed_held, handed_looked, tried_gave, handed_tried};
+ghost use Rattle.hub_c.specs.Handed.{handed, handed_report, plan_gave, handed_plan, tape_gave, handed_tape, read_gave, handed_read, handed_player, handed_receiver, handed_started, handed_stepped, handed_numbers, numbers_from, handed_begun, handed_change, held_gave, handed_held, handed_looked, tried_gave, handed_tried};
 ghost use Rattle.held_table.specs.Held.{kept, begun, add_call, withdraw_call};
 ghost use Rattle.candidates.specs.Tried.{candidates, candidates_call};
 ghost use Rattle.window.specs.Rows.{row};
