@@ -389,6 +389,9 @@ class Parser:
             return Node("struct", at, [names, self.listed("}", self.pattern_field)])
         if self.is_at("@"):
             fail(at, "a name with a pattern")
+        if self.take("..="):
+            self.pattern_alone()
+            return Node("any", at, [])
         return Node("name" if len(names) == 1 and not names[0][0].isupper() else "same", at, names)
 
     def pattern_field(self):
@@ -718,9 +721,16 @@ class Names:
     def number(self, node):
         """The number that an expression of numbers and constants stands for."""
         if node.kind == "num":
-            digits = re.fullmatch(r"([0-9][0-9_]*)(usize)?", node.parts[0])
+            digits = re.fullmatch(r"(0x[0-9A-F]+|[0-9][0-9_]*)(usize)?", node.parts[0])
             if digits:
-                return int(digits[1].replace("_", ""))
+                return int(digits[1].replace("_", ""), 16 if digits[1].startswith("0x") else 10)
+        if node.kind == "cast":
+            return self.number(node.parts[0])
+        if node.kind == "index" and node.parts[0].kind == "name":
+            module, _, value = constants.get(full_name(self.module, node.parts[0].parts[0]), (None, None, None))
+            at = self.number(node.parts[1])
+            if value and value.kind == "array" and at < len(value.parts):
+                return Names(module).number(value.parts[at])
         if node.kind == "name":
             name = full_name(self.module, node.parts[0])
             if name in constants:

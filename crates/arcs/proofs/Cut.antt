@@ -115,13 +115,6 @@ module _ {C cut : ℕ} {ss ls ps es : List ℕ} (arcs : Arcs C ss ls) (below : c
   pub placed_ends : Ends C (at ps i) (at ls i) (at es i) (crosses (at ps i) (at es i))
   placed_ends = rw (placed.end i h) (ends placed_below (arcs.proper i h) (arcs.whole i h))
 
-  pub placed_end_below : at es i ≤ C
-  placed_end_below = go placed_ends
-    where
-      go : {b : Bool} → Ends C (at ps i) (at ls i) (at es i) b → at es i ≤ C
-      go (past e l) = omega (arith, placed_below)
-      go (short e l k) = l
-
 module _ {C cut : ℕ} {ss ls ps es : List ℕ} (arcs : Arcs C ss ls) (below : cut < C) (placed : Placed C cut ss ls ps es) where
   placed_distance : (i j : ℕ) → i < length ss → j < length ss → distance C (at ps i) (at ps j) ≡ distance C (at ss i) (at ss j)
   placed_distance i j h k = rw (placed.position i h, placed.position j k) (turned below (arcs.start i h) (arcs.start j k))

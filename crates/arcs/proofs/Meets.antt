@@ -6,7 +6,8 @@ use mathlib.Core.Logic.{◌↔◌, ◌⊎◌, inl, inr}
 use mathlib.Core.Bool.{Bool, true, ◌||◌}
 use native.Mathlib.Omega.{arith}
 use lib.Dec.{ltb}
-use Rattle.basics.proofs.Tests.{Test, pass, fail, test, ltb_iff, or_iff}
+use Rattle.std.proofs.lemmas.Bool.Decides.{Decides-ltb}
+use Rattle.basics.proofs.Tests.{Test, pass, fail, test, or_iff}
 use Rattle.window.specs.Ticks.{distance}
 use Rattle.arcs.specs.Arcs.{Covers, Meet}
 use Rattle.arcs.proofs.Steps.{Steps, direct, round, steps, reaches, only_steps}
@@ -47,7 +48,7 @@ module _ (C s n s' n' : ℕ) where
   -- `meets` as a statement
   pub meets_near : (meets C s n s' n' ≡ true) ↔ ((distance C s s' < n) ⊎ (distance C s' s < n'))
   unfolding meets
-  meets_near = or_iff (ltb_iff (distance C s s') n) (ltb_iff (distance C s' s) n')
+  meets_near = or_iff (Decides-ltb (distance C s s') n) (Decides-ltb (distance C s' s) n')
 
   module _ (hs : s < C) (hs' : s' < C) (some : 1 ≤ n) (whole : n ≤ C) (some' : 1 ≤ n') (whole' : n' ≤ C) where
     near_meet : (distance C s s' < n) ⊎ (distance C s' s < n') → Meet C s n s' n'

@@ -2,13 +2,13 @@
 use Prim.Native.Nat.{ℕ, ◌+◌, ◌≤◌, ◌<◌}
 use mathlib.Core.Path.{◌≡◌, refl, sym, ◌∙◌}
 use mathlib.Core.Logic.{◌⊎◌, inl, inr}
-use mathlib.Core.List.{List, map}
+use mathlib.Core.List.{List}
 use native.Mathlib.Omega.{arith}
 use native.Mathlib.Nat.{eq-or-lt_of_le}
-use lib.ListN.{length, set, length-set, length-map}
+use lib.ListN.{length, set, length-set}
 use lib.Seq.{get_or-set_same, get_or-set_other, ext_get_or}
 use Rattle.basics.specs.Lists.{at, list_of}
-use Rattle.basics.proofs.Lists.{at_map, length_list, at_list}
+use Rattle.basics.proofs.Lists.{length_list, at_list}
 
 -- the first n entries are those of f, and the others as they were
 pub record Filled (f : ℕ → ℕ) (n : ℕ) (old new : List ℕ) : Type 0 where
@@ -30,12 +30,6 @@ filled_more {f} {n} {old} {new} {x} w h e =
     go : (i : ℕ) → (i ≡ n) ⊎ (i < n) → at (set new n x) i ≡ f i
     go i (inl q) = rw q (get_or-set_same new n x 0 (omega (arith, w.each)) ∙ e)
     go i (inr q) = get_or-set_other new n i x 0 (λ r. omega arith) ∙ w.done i q
-
--- all entries are those of another list, each turned by f
-pub filled_map : (f : ℕ → ℕ) (l : List ℕ) {old new : List ℕ} (n : ℕ) → n ≡ length l → length old ≡ length l → Filled (λ k. f (at l k)) n old new → new ≡ map f l
-filled_map f l {old} {new} n e h w =
-    ext_get_or 0 new (map f l) (w.each ∙ h ∙ sym (length-map l f))
-    (λ k b. w.done k (omega (arith, w.each)) ∙ sym (at_map f l k (omega (arith, w.each))))
 
 -- all entries are those of f
 pub filled_list : {f : ℕ → ℕ} {old new : List ℕ} {i : ℕ} (n : ℕ) → length old ≡ n → n ≤ i → Filled f i old new → new ≡ list_of n f

@@ -4,14 +4,10 @@ use mathlib.Core.Path.{◌≡◌, refl, ap}
 use mathlib.Core.List.{List, [], ◌∷◌, ◌++◌, map}
 use mathlib.Core.Logic.{◌≢◌}
 use native.Mathlib.Omega.{arith}
-use lib.ListN.{length, get_or, take, drop, replicate}
-use Rattle.std.proofs.lemmas.List.{get_or_default, get_or-map}
+use lib.ListN.{length, take, drop, replicate}
+use Rattle.std.proofs.lemmas.List.{get_or-map}
 use Rattle.std.proofs.lemmas.List.Edits.{length-remove}
 use Rattle.basics.specs.Lists.{at, list_of, without}
-
--- within a list the value that stands for "past its end" does not matter
-pub get_d_any : (l : List ℕ) (i d e : ℕ) → i < length l → get_or l i d ≡ get_or l i e
-get_d_any = get_or_default
 
 pub at_map : (f : ℕ → ℕ) (l : List ℕ) (i : ℕ) → i < length l → at (map f l) i ≡ f (at l i)
 at_map f l i h = get_or-map f l i 0 0 h

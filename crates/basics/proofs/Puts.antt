@@ -1,12 +1,11 @@
 -- Bytes stored one part after the other are stored together.
-use Prim.Native.Nat.{ℕ, suc, ◌+◌, ◌≤◌, ◌<◌}
+use Prim.Native.Nat.{ℕ, suc, ◌+◌, ◌≤◌}
 use mathlib.Core.Path.{◌≡◌, refl, sym, ap, ◌∙◌}
 use mathlib.Core.List.{List, [], ◌∷◌, ◌++◌}
 use native.Mathlib.Nat.{add-zero}
-use native.Mathlib.Numerals.{add-one}
 use native.Mathlib.Omega.{arith}
-use lib.ListN.{length, get_or, take, drop, set, length-append}
-use lib.Seq.{sets, sets-eq, length-sets, take-suc}
+use lib.ListN.{length, drop, set, length-append}
+use lib.Seq.{sets, sets-eq, length-sets}
 use Rattle.basics.specs.Lists.{front, Put}
 
 sets_append : (l a b : List ℕ) (i : ℕ) → sets l i (a ++ b) ≡ sets (sets l i a) (i + length a) b
@@ -16,12 +15,6 @@ sets_append l (x ∷ a) b i = sets_append (set l i x) a b (suc i) ∙ ap (λ n. 
 pub put_none : (l : List ℕ) (i : ℕ) → Put l i [] l i
 put_none l i = record { stored = refl; ends = sym (add-zero i) }
 
-pub put_one : (l : List ℕ) (i x : ℕ) → Put l i (x ∷ []) (set l i x) (i + 1)
-put_one l i x = record { stored = refl; ends = refl }
-
-pub put_two : (l : List ℕ) (i x y : ℕ) → Put l i (x ∷ y ∷ []) (set (set l i x) (i + 1) y) (i + 2)
-put_two l i x y = record { stored = ap (λ n. set (set l i x) n y) (add-one i); ends = refl }
-
 -- the second part begins where the first ends
 pub put_then : {l m n a b : List ℕ} {i j k : ℕ} → Put l i a m j → Put m j b n k → Put l i (a ++ b) n k
 put_then {l} {m} {n} {a} {b} {i} {j} {k} p q =
@@ -30,20 +23,9 @@ put_then {l} {m} {n} {a} {b} {i} {j} {k} p q =
       ends = q.ends ∙ ap (λ x. x + length b) p.ends ∙ omega (arith, length-append a b);
     }
 
--- one byte more of a text
-pub put_more : {l m : List ℕ} {i j : ℕ} (text : List ℕ) (n : ℕ) → Put l i (take n text) m j → n < length text
-    → Put l i (take (n + 1) text) (set m j (get_or text n 0)) (j + 1)
-put_more {m = m} {j = j} text n p h = rw (add-one n, take-suc text n 0 h) (put_then p (put_one m j (get_or text n 0)))
-
--- the same with the bytes, the first place and the place after them said otherwise
+-- the same with the bytes said otherwise
 pub put_text : {l m a b : List ℕ} {i j : ℕ} → a ≡ b → Put l i a m j → Put l i b m j
 put_text e p = rw e at p
-
-pub put_from : {l m a : List ℕ} {i j k : ℕ} → i ≡ k → Put l i a m j → Put l k a m j
-put_from e p = rw e at p
-
-pub put_to : {l m a : List ℕ} {i j k : ℕ} → Put l i a m j → k ≡ j → Put l i a m k
-put_to p e = record { stored = p.stored; ends = e ∙ p.ends }
 
 pub put_length : {l m a : List ℕ} {i j : ℕ} → Put l i a m j → length m ≡ length l
 put_length {l} {a = a} {i} p = ap length p.stored ∙ length-sets l i a

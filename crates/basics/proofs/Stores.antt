@@ -1,20 +1,10 @@
--- Laws of entries that are stored from a place on: which places they leave, and when they are stored over others.
+-- Laws of entries that are stored from a place on, over others.
 use Prim.Native.Nat.{ℕ, suc, ◌+◌, ◌≤◌, ◌<◌}
 use mathlib.Core.Path.{◌≡◌, refl, sym, ap, ◌∙◌}
 use mathlib.Core.List.{List, [], ◌∷◌, ◌++◌}
 use native.Mathlib.Omega.{arith}
 use lib.ListN.{length, take, drop, set, length-drop, take-append-drop}
-use lib.Seq.{sets, sets-eq, get_or-set_other, set-set, set_comm, length-take-le, take-take}
-use Rattle.basics.specs.Lists.{at}
-
--- places before and after the stored entries are left
-pub at_before : (l vs : List ℕ) (i j : ℕ) → j < i → at (sets l i vs) j ≡ at l j
-at_before l [] i j h = refl
-at_before l (x ∷ vs) i j h = at_before (set l i x) vs (suc i) j (omega arith) ∙ get_or-set_other l i j x 0 (λ e. omega arith)
-
-pub at_after : (l vs : List ℕ) (i j : ℕ) → i + length vs ≤ j → at (sets l i vs) j ≡ at l j
-at_after l [] i j h = refl
-at_after l (x ∷ vs) i j h = at_after (set l i x) vs (suc i) j (omega arith) ∙ get_or-set_other l i j x 0 (λ e. omega arith)
+use lib.Seq.{sets, sets-eq, set-set, set_comm, length-take-le, take-take}
 
 -- an entry is stored before those that are
 set_before : (l vs : List ℕ) (i j x : ℕ) → j < i → set (sets l i vs) j x ≡ sets (set l j x) i vs

@@ -2,14 +2,14 @@
 use Prim.Native.Nat.{ℕ, zero, suc, ◌+◌, ◌≤◌, ◌<◌}
 use mathlib.Core.Path.{◌≡◌, refl, sym}
 use mathlib.Core.Logic.Iff
-use mathlib.Core.Logic.{◌↔◌, ◌⊎◌, inl, inr, ⊎_elim}
+use mathlib.Core.Logic.{◌↔◌, ◌⊎◌, ⊎_elim}
 use mathlib.Core.Bool.{Bool, true, false, cond, not, ◌&&◌, ◌||◌, and-false, false≢true}
 use native.Mathlib.Omega.{arith}
 use native.Mathlib.Numerals.{add-one}
 use native.Mathlib.Nat.{eq-or-lt_of_le, le_of_suc-le-suc}
-use lib.Dec.{leb, ltb, eqb}
+use lib.Dec.{leb}
 use borrow.Author.Tests.{leb-true, leb-false, le-leb}
-use Rattle.std.proofs.lemmas.Bool.Decides.{same_from_decides, Decides-ltb, Decides-eqb, Decides-not, Decides-and, Decides-or}
+use Rattle.std.proofs.lemmas.Bool.Decides.{same_from_decides, Decides-not, Decides-and, Decides-or}
 use Rattle.basics.specs.Tests.{◌⇒◌, every}
 
 -- what a test a ≤ b told
@@ -24,26 +24,14 @@ test a b = go (leb a b) refl
     go true e = pass (leb-true a b e)
     go false e = fail (leb-false a b e)
 
-pub le_or_lt : (a b : ℕ) → (a ≤ b) ⊎ (b < a)
-le_or_lt a b = go (test a b)
-  where
-    go : {t : Bool} → Test a b t → (a ≤ b) ⊎ (b < a)
-    go (pass h) = inl h
-    go (fail h) = inr h
-
 pub leb_iff : (a b : ℕ) → (leb a b ≡ true) ↔ (a ≤ b)
 leb_iff a b = (leb-true a b, le-leb a b)
-
-pub ltb_iff : (a b : ℕ) → (ltb a b ≡ true) ↔ (a < b)
-ltb_iff = Decides-ltb
-
-pub eqb_iff : (a b : ℕ) → (eqb a b ≡ true) ↔ (a ≡ b)
-eqb_iff = Decides-eqb
 
 -- two tests that say the same are equal
 pub bool_ext : (a b : Bool) → (a ≡ true → b ≡ true) → (b ≡ true → a ≡ true) → a ≡ b
 bool_ext a b f g = same_from_decides a b (f, g) (λ e. e, λ e. e)
 
+-- `bool_ext` above and these three are laws of the standard library, with the tests left to be found.
 module _ {P : Type 0} where
   pub not_iff : {a : Bool} → (a ≡ true) ↔ P → (not a ≡ true) ↔ (P → ⊥)
   not_iff {a} = Decides-not a

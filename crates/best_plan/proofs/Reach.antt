@@ -6,7 +6,8 @@ use mathlib.Core.Bool.{Bool, true, cond, ◌||◌}
 use native.Mathlib.Nat.{mod-lt}
 use native.Mathlib.Omega.{arith}
 use lib.Dec.{ltb}
-use Rattle.basics.proofs.Tests.{Test, pass, fail, test, bool_ext, ltb_iff, or_iff}
+use Rattle.std.proofs.lemmas.Bool.Decides.{Decides-ltb}
+use Rattle.basics.proofs.Tests.{Test, pass, fail, test, bool_ext, or_iff}
 use Rattle.window.specs.declared.Kind.{Kind}
 use Rattle.window.specs.declared.Kind.TheVariants.{Round, Run}
 use Rattle.window.specs.Ticks.{distance}
@@ -134,8 +135,8 @@ module _ (R g s e t : ℕ) (h : t < R) (most : g ≤ max_gap) where
   unfolding reaches distance
   arc_reaches kind w =
       bool_ext (reaches kind R g s e t) (ltb d (cut_off C n))
-      (λ x. (ltb_iff d (cut_off C n)).1 (cut.1 ((by_distance kind w).0 (tests.0 x))))
-      (λ x. tests.1 ((by_distance kind w).1 (cut.0 ((ltb_iff d (cut_off C n)).0 x))))
+      (λ x. (Decides-ltb d (cut_off C n)).1 (cut.1 ((by_distance kind w).0 (tests.0 x))))
+      (λ x. tests.1 ((by_distance kind w).1 (cut.0 ((Decides-ltb d (cut_off C n)).0 x))))
     where
       C : ℕ
       C = circle_ticks kind R

@@ -1,15 +1,16 @@
 -- From paper to core: a list of labels is a plan of a checked table exactly if it is an assignment of its arcs and permissions. Run and round together.
 use Prim.Native.Nat.{ℕ, ◌+◌, ◌≤◌, ◌<◌}
-use mathlib.Core.Path.{◌≡◌, sym, ap, ◌∙◌}
+use mathlib.Core.Path.{◌≡◌, refl, sym, ◌∙◌}
 use mathlib.Core.Logic.{◌≢◌, ◌↔◌, ◌⊎◌, inl, inr}
-use mathlib.Core.Bool.{true}
+use mathlib.Core.Bool.{Bool, true}
 use mathlib.Core.List.{List}
 use native.Mathlib.Omega.{arith}
 use native.Mathlib.Nat.{eq-or-lt_of_le}
-use lib.ListN.{length, set, length-set}
+use lib.ListN.{length, set}
 use lib.Seq.{get_or-set_same, get_or-set_other}
 use Rattle.basics.specs.Lists.{at}
-use Rattle.basics.proofs.Filling.{Filled}
+use Rattle.std.specs.Prelude.{Option, None, Some, is_some}
+use Rattle.std.specs.Int.{from_bool}
 use Rattle.labels.specs.Permission.{permits}
 use Rattle.labels.proofs.Permissions.{made_iff}
 use Rattle.labels.proofs.Best.{assignment_iff}
@@ -25,7 +26,7 @@ use Rattle.table.specs.Changes.{with_row}
 use Rattle.table.proofs.Plans.{allowed_iff}
 use Rattle.table.proofs.Changes.{rows_with_row, row_before, row_last, valid_with}
 use Rattle.best_plan.proofs.Reach.{circle_least, cut_most, arc_some, close_iff}
-use Rattle.best_plan.specs.Rows.{circle_of, arc_of, permission_of, ArcsIn, ArcsOf, ValidWith}
+use Rattle.best_plan.specs.Rows.{circle_of, arc_of, permission_of, with_more, ValidMore, ArcRoom, ArcsIn, ArcsOf}
 
 module _ (S : Setting) where
   pub circle_some : ValidSetting S → 1 ≤ circle_of S
@@ -94,54 +95,50 @@ module _ (t : Table) (valid : Valid t) {starts lengths perms : List ℕ} (arcs :
   pub core_lent : {C : ℕ} {space : List ℕ} → C ≡ circle_of t.setting → core_bytes ≤ length space → Lent C starts lengths perms space
   core_lent e room = record { arcs = rw e arcs_within; each_perm = arcs.lists.each_perm ∙ sym arcs.lists.each_start; room = room }
 
--- ---- the loop that writes arcs and permissions
-
-pub arcs_set : (t : Table) {xs ys zs starts lengths perms : List ℕ} (i : ℕ) → i ≡ rows t
-    → Filled (λ k. (arc_of t.setting (row_at t k)).start) i xs starts
-    → Filled (λ k. (arc_of t.setting (row_at t k)).length) i ys lengths
-    → Filled (λ k. permission_of t.setting (row_at t k)) i zs perms
-    → ArcsIn t starts lengths perms
-arcs_set t i e a b c = record { start = λ k h. a.done k (omega arith); ticks = λ k h. b.done k (omega arith); perm = λ k h. c.done k (omega arith) }
+-- ---- lists of arcs and permissions
 
 -- written into lists with a place for each row
-pub arcs_of : (t : Table) {a b c : List ℕ} → ArcsIn t a b c → length a ≡ rows t → length b ≡ rows t → length c ≡ rows t → ArcsOf t a b c
-arcs_of t p x y z = record { lists = record { each_start = x; each_length = y; each_perm = z }; each = p }
+pub arcs_of : (t : Table) {n : ℕ} → n ≡ rows t → {a b c : List ℕ} → ArcsIn t a b c → length a ≡ n → length b ≡ n → length c ≡ n → ArcsOf t a b c
+arcs_of t e p x y z = record { lists = record { each_start = x ∙ e; each_length = y ∙ e; each_perm = z ∙ e }; each = p }
 
 -- ---- a row more
 
 -- in a list that begins with an entry for each row, the entry after them is set: then there is one for each row of the longer table
-module _ (t : Table) (valid : Valid t) (new : Row) (f : Row → ℕ) (old : List ℕ) (n : ℕ) (all : n ≡ rows t) {l : List ℕ} (e : l ≡ set old n (f new)) (more : length old ≡ n + 1) where
+module _ (t : Table) (valid : Valid t) (new : Row) (f : Row → ℕ) (old : List ℕ) {n : ℕ} (all : n ≡ rows t) {l : List ℕ} (e : l ≡ set old n (f new)) (more : rows (with_row t new) ≤ length old) where
   entry_with : ((i : ℕ) → i < rows t → at old i ≡ f (row_at t i)) → (i : ℕ) → i < rows (with_row t new) → at l i ≡ f (row_at (with_row t new) i)
   entry_with h i b = go (eq-or-lt_of_le (omega (arith, rows_with_row t new)))
     where
       go : (i ≡ rows t) ⊎ (i < rows t) → at l i ≡ f (row_at (with_row t new) i)
       go (inl q) =
           rw (q, e, all, row_last t new valid.each_end valid.each_mark)
-          (get_or-set_same old (rows t) (f new) 0 (omega arith))
+          (get_or-set_same old (rows t) (f new) 0 (omega (arith, rows_with_row t new)))
       go (inr q) =
           rw (e, row_before t new valid.each_end valid.each_mark i q)
           (get_or-set_other old n i (f new) 0 (λ r. omega arith) ∙ h i q)
 
-pub longer_valid : (t : Table) (new : Row) → ValidWith t new → Valid (with_row t new)
-longer_valid t new v = valid_with t new v.valid.each_end v.valid.each_mark v.valid v.new v.few
-
 -- the arc and permission of a row are written after those of a table
-module _ (t : Table) (valid : Valid t) (new : Row) {a b c : List ℕ} (arcs : ArcsIn t a b c) (n : ℕ) (all : n ≡ rows t) {starts lengths perms : List ℕ}
+module _ (t : Table) (v : Valid t) (new : Row) {a b c : List ℕ} (arcs : ArcsIn t a b c) (room : ArcRoom (rows (with_row t new)) a b c) {n : ℕ} (all : n ≡ rows t) {starts lengths perms : List ℕ}
     (start_set : starts ≡ set a n (arc_of t.setting new).start) (length_set : lengths ≡ set b n (arc_of t.setting new).length) (perm_set : perms ≡ set c n (permission_of t.setting new)) where
-  pub arcs_with : length a ≡ n + 1 → length b ≡ n + 1 → length c ≡ n + 1 → ArcsOf (with_row t new) starts lengths perms
-  arcs_with x y z =
-      let more = rows_with_row t new in
+  pub arcs_with : ArcsIn (with_row t new) starts lengths perms
+  arcs_with =
       record {
-        lists =
-            record {
-              each_start = ap length start_set ∙ length-set a n _ ∙ omega arith;
-              each_length = ap length length_set ∙ length-set b n _ ∙ omega arith;
-              each_perm = ap length perm_set ∙ length-set c n _ ∙ omega arith;
-            };
-        each =
-            record {
-              start = entry_with t valid new (λ r. (arc_of t.setting r).start) a n all start_set x arcs.start;
-              ticks = entry_with t valid new (λ r. (arc_of t.setting r).length) b n all length_set y arcs.ticks;
-              perm = entry_with t valid new (permission_of t.setting) c n all perm_set z arcs.perm;
-            };
+        start = entry_with t v new (λ r. (arc_of t.setting r).start) a all start_set room.start arcs.start;
+        ticks = entry_with t v new (λ r. (arc_of t.setting r).length) b all length_set room.ticks arcs.ticks;
+        perm = entry_with t v new (permission_of t.setting) c all perm_set room.perm arcs.perm;
       }
+
+-- ---- a table, and a row more where one is given
+
+-- the longer table is checked
+pub more_valid : (t : Table) (more : Option Row) → ValidMore t more → Valid (with_more t more)
+more_valid t None v = v
+more_valid t (Some row) v = valid_with t row v.valid.each_end v.valid.each_mark v.valid v.new v.few
+
+pub setting_more : (t : Table) (more : Option Row) → (with_more t more).setting ≡ t.setting
+setting_more t None = refl
+setting_more t (Some row) = refl
+
+-- how many rows there are, as the code adds them up
+pub rows_more : (t : Table) (more : Option Row) {n m : ℕ} {b : Bool} → n ≡ rows t → b ≡ is_some more → m ≡ from_bool b → n + m ≡ rows (with_more t more)
+rows_more t None e f g = rw (g, f) (omega arith)
+rows_more t (Some row) e f g = rw (g, f) (omega (arith, rows_with_row t row))

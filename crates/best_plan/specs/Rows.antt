@@ -13,6 +13,7 @@ use Rattle.window.specs.Windows.{ticks_in}
 use Rattle.window.specs.Gaps.{max_gap}
 use Rattle.table.specs.declared.Setting.{Setting}
 use Rattle.table.specs.Tables.{Table, rows, row_at, is_allowed, ValidSetting, ValidRow, Valid}
+use Rattle.table.specs.Changes.{with_row}
 use Rattle.best_plan.specs.declared.Arc.{Arc}
 
 -- The ticks of the circle. A run is a circle that no arc crosses: the longest gap fits between its last tick and its first, so that the gap of the last window does not reach the first.
@@ -71,20 +72,24 @@ pub record Checked (t : Table) (labels space : List ℕ) : Type 0 where
   pub each_label : length labels ≡ rows t
   pub room : core_bytes ≤ length space
 
--- what counting for such a table is lent
-pub record Countable (t : Table) (space : List ℕ) : Type 0 where
-  pub valid : Valid t
-  pub room : core_bytes ≤ length space
-
 -- such a table, and a row more that passed its checks too
 pub record ValidWith (t : Table) (row : Row) : Type 0 where
   pub valid : Valid t
   pub new : ValidRow t.setting row
   pub few : rows t < max_rows
 
--- what counting for the longer table is lent
-pub record CountableWith (t : Table) (row : Row) (space : List ℕ) : Type 0 where
-  pub longer : ValidWith t row
+-- a table, and a row more where one is given
+abbrev pub with_more : Table → Option Row → Table
+with_more t None = t
+with_more t (Some row) = with_row t row
+
+abbrev pub ValidMore : Table → Option Row → Type 0
+ValidMore t None = Valid t
+ValidMore t (Some row) = ValidWith t row
+
+-- what counting for them is lent
+pub record Countable (t : Table) (more : Option Row) (space : List ℕ) : Type 0 where
+  pub valid : ValidMore t more
   pub room : core_bytes ≤ length space
 
 -- the count in an answer that is one more, and 0 where there is none

@@ -5,10 +5,9 @@ ghost use Rattle.std.specs.Prelude.{◌≡◌, ◌+◌, ◌++◌, map, ◌≤◌
 ghost use Rattle.labels.specs.Permission.{label_of};
 ghost use Rattle.line.specs.Cells.{core_bytes};
 ghost use Rattle.refusals.specs.Refusals.{answer_of};
-ghost use Rattle.table.specs.Tables.{lent, rows, Valid, ValidSetting};
+ghost use Rattle.table.specs.Tables.{lent, rows, ValidSetting};
 ghost use Rattle.table.specs.Planned.{space_bytes, best_plan, answering, given};
-ghost use Rattle.table.specs.Changes.{with_row};
-ghost use Rattle.best_plan.specs.Rows.{circle_of, cut_off, arc_of, HasArc, permission_of, ArcRoom, ArcsIn, Checked, Countable, CountableWith, count_in, count_of};
+ghost use Rattle.best_plan.specs.Rows.{circle_of, arc_of, HasArc, permission_of, with_more, ValidMore, ArcRoom, ArcsIn, Checked, Countable, count_in, count_of};
 
 use basics::MAX_ROWS;
 use refusals::Refusal;
@@ -37,29 +36,17 @@ fn circle_of(setting: Setting) -> u16
     }
 }
 
-// An arc's length, cut off at the circle.
-#[tactic(auto, unfolding(crate::specs::Rows::cut_off))]
-fn cut_off(circle: u16, length: u16) -> u16
-    ensures { result ≡ cut_off circle length }
-{
-    if length <= circle {
-        return length;
-    }
-    circle
-}
-
-// The arc of a row. A window has at most R ticks and R is at most 43,200; the gap is at most 600: the sum, at most 43,800, fits 16 bits.
+// The arc of a row, cut off at the circle. A window has at most R ticks and R is at most 43,200; the gap is at most 600: the sum, at most 43,800, fits 16 bits.
+// Setting and row come apart here and below: a setting stands beside many rows, and first in each definition.
 #[tactic(auto, using(window::proofs::Meaning::ticks_most), unfolding(crate::specs::Rows::arc_of))]
 fn arc_of(setting: Setting, row: Row) -> Arc
     requires { HasArc setting row }
     ensures { result ≡ arc_of setting row }
 {
     let ticks = row.window().length(setting.kind, setting.ticks);
-    let circle = circle_of(setting);
-    let length = cut_off(circle, ticks + setting.gap);
     Arc {
         start: row.start,
-        length,
+        length: (ticks + setting.gap).min(circle_of(setting)),
     }
 }
 
@@ -96,18 +83,28 @@ fn set_arc(
     perms[i] = permission(setting, row);
 }
 
-// Writes the arcs and permissions of the rows of a checked table.
-fn set_arcs(table: Table, starts: &mut [u16], lengths: &mut [u16], perms: &mut [u8])
-    requires valid { Valid (lent table) }
-    requires room { ArcRoom (rows (lent table)) starts.old lengths.old perms.old }
-    ensures { ArcsIn (lent table.entry) starts.new lengths.new perms.new }
+// Writes the arcs and permissions of the rows of a checked table, and after them those of the row more.
+fn set_arcs(
+    table: Table,
+    more: Option<Row>,
+    starts: &mut [u16],
+    lengths: &mut [u16],
+    perms: &mut [u8],
+)
+    requires valid { ValidMore (lent table) more }
+    requires room { ArcRoom (rows (with_more (lent table) more)) starts.old lengths.old perms.old }
+    ensures { ArcsIn (with_more (lent table.entry) more) starts.new lengths.new perms.new }
 {
-    for i in 0..table.rows.len() {
+    let n = table.rows.len();
+    for i in 0..n {
         set_arc(table.setting, table.rows.row(i), i, starts, lengths, perms);
+    }
+    if let Some(row) = more {
+        set_arc(table.setting, row, n, starts, lengths, perms);
     }
 }
 
-// Writes the label of each permission.
+// Writes the label of each permission. Tried as a `zip` of both lists: the proof of what the labels are after the loop did not close.
 fn set_labels(perms: &[u8], labels: &mut [u8])
     requires { length labels.old ≡ length perms.now }
     ensures { labels.new ≡ map label_of perms.now }
@@ -124,8 +121,10 @@ fn count_in(best: u8) -> Option<usize>
     best.checked_sub(1).map(usize::from)
 }
 
-// Plans a table that has passed its checks. It leaves open what the first 4,608 bytes of the working space then hold.
-// Its arrays and those of the core are in the account of docs/MEMORY.md. Those that count declare them too: were a closure handed them, its caller would not know what it leaves of `space`.
+// Plans a table that has passed its checks. It leaves open what the first 4,608 bytes of the working space then hold; that it leaves the others stands in each contract
+// that lends the space, here and in `candidates`, since a function promises this of its own call and no type can.
+// Its arrays and those of the core are in the account of docs/MEMORY.md. `count_checked` declares them too: a function that declared them for both and called a closure
+// with them could not promise what the closure leaves of `space`, as both do.
 pub fn plan_checked(table: Table, labels: &mut [u8], space: &mut [u8]) -> Result<usize, Refusal>
     requires { Checked (lent table) labels.old space.old }
     ensures labels_after { answering (answer_of result) labels.new ≡ given (best_plan (lent table.entry)) labels.old }
@@ -138,7 +137,7 @@ pub fn plan_checked(table: Table, labels: &mut [u8], space: &mut [u8]) -> Result
     let starts = &mut arc_starts[..n];
     let lengths = &mut arc_lengths[..n];
     let perms = &mut perms[..n];
-    set_arcs(table, starts, lengths, perms);
+    set_arcs(table, None, starts, lengths, perms);
     let circle = circle_of(table.setting);
     let best = tracks::best_assignment(circle, starts, lengths, perms, space);
     let Some(count) = count_in(best) else {
@@ -156,40 +155,21 @@ pub fn clear_space(space: &mut [u8])
     space[..SPACE_BYTES].fill(0);
 }
 
-// How many rows the best plan of a checked table hears; None without a plan. It leaves open what the first 4,608 bytes of the working space then hold.
-pub fn count_checked(table: Table, space: &mut [u8]) -> Option<usize>
-    requires { Countable (lent table) space.old }
-    ensures value { result ≡ count_of (best_plan (lent table.entry)) }
+// How many rows the best plan of a checked table hears, with a row more where one is given that has passed its checks too; None without a plan. The table itself stays as
+// it is lent. It leaves open what the first 4,608 bytes of the working space then hold.
+pub fn count_checked(table: Table, more: Option<Row>, space: &mut [u8]) -> Option<usize>
+    requires { Countable (lent table) more space.old }
+    ensures value { result ≡ count_of (best_plan (with_more (lent table.entry) more)) }
     ensures space_unchanged { drop core_bytes space.new ≡ drop core_bytes space.old }
 {
     let mut arc_starts = [0u16; MAX_ROWS];
     let mut arc_lengths = [0u16; MAX_ROWS];
     let mut perms = [0u8; MAX_ROWS];
-    let n = table.rows.len();
+    let n = table.rows.len() + usize::from(more.is_some());
     let starts = &mut arc_starts[..n];
     let lengths = &mut arc_lengths[..n];
     let perms = &mut perms[..n];
-    set_arcs(table, starts, lengths, perms);
-    let circle = circle_of(table.setting);
-    let best = tracks::best_count(circle, starts, lengths, perms, space);
-    count_in(best)
-}
-
-// The same of a checked table with a row more, which has passed its checks too. The table itself stays as it is lent.
-pub fn count_with(table: Table, row: Row, space: &mut [u8]) -> Option<usize>
-    requires { CountableWith (lent table) row space.old }
-    ensures value { result ≡ count_of (best_plan (with_row (lent table.entry) row)) }
-    ensures space_unchanged { drop core_bytes space.new ≡ drop core_bytes space.old }
-{
-    let mut arc_starts = [0u16; MAX_ROWS];
-    let mut arc_lengths = [0u16; MAX_ROWS];
-    let mut perms = [0u8; MAX_ROWS];
-    let n = table.rows.len();
-    let starts = &mut arc_starts[..n + 1];
-    let lengths = &mut arc_lengths[..n + 1];
-    let perms = &mut perms[..n + 1];
-    set_arcs(table, starts, lengths, perms);
-    set_arc(table.setting, row, n, starts, lengths, perms);
+    set_arcs(table, more, starts, lengths, perms);
     let circle = circle_of(table.setting);
     let best = tracks::best_count(circle, starts, lengths, perms, space);
     count_in(best)

@@ -12,7 +12,8 @@ use lib.Pow.{pow_pos, pow_mono, high, low, mod-pow-add, field, mod-mod-pow, shl_
 use lib.Bits.{bit_and, bit_or, and_step, and_shr, or_shifted_r}
 use lib.Count.{ones, ones_cat}
 use borrow.Author.Tests.{eq-eqb, eqb-true, lt-ltb, ltb-true}
-use Rattle.basics.proofs.Tests.{le_or_lt, bool_ext}
+use Rattle.std.proofs.lemmas.Bool.{cases_lt}
+use Rattle.basics.proofs.Tests.{bool_ext}
 use Rattle.bit_words.specs.Bits.{bit, is_set, word_of}
 
 -- a bit is 0 or 1
@@ -91,15 +92,15 @@ module _ (test : ℕ → Bool) where
 
   -- both at once: a bit is 1 exactly for a row of which the test holds
   pub word_iff : (n i : ℕ) → (bit (word_of n test) i ≡ 1) ↔ ((i < n) × (test i ≡ true))
-  word_iff n i = (λ e. go e (le_or_lt n i), λ f. word_bit n i f.0 ∙ ap (λ (b : Bool). cond b 1 0) f.1)
+  word_iff n i = (λ e. go e (cases_lt i n), λ f. word_bit n i f.0 ∙ ap (λ (b : Bool). cond b 1 0) f.1)
     where
       one : (b : Bool) → ◌≡◌ {A = ℕ} (cond b 1 0) 1 → b ≡ true
       one true e = refl
       one false e = absurd (omega arith)
 
-      go : bit (word_of n test) i ≡ 1 → (n ≤ i) ⊎ (i < n) → (i < n) × (test i ≡ true)
-      go e (inl l) = absurd (omega (arith, word_above n i l))
-      go e (inr l) = (l, one (test i) (sym (word_bit n i l) ∙ e))
+      go : bit (word_of n test) i ≡ 1 → (i < n) ⊎ (n ≤ i) → (i < n) × (test i ≡ true)
+      go e (inl l) = (l, one (test i) (sym (word_bit n i l) ∙ e))
+      go e (inr l) = absurd (omega (arith, word_above n i l))
 
   -- ---- as it is made, row by row
 
@@ -145,11 +146,11 @@ word_ext n {x} {y} h k f = sym (word_whole n x h) ∙ word_same n (λ i l. ap (�
 pub below_of_bits : (n x m : ℕ) → x < 2 ^ n → ((i : ℕ) → i < n → m ≤ i → bit x i ≡ 0) → x < 2 ^ m
 below_of_bits n x m h f =
     let l : x % 2 ^ m < 2 ^ m = mod-lt x (pow_pos m) in
-    subst (λ (y : ℕ). y < 2 ^ m) (sym (word_ext n h (omega (arith, mod-le x (2 ^ m))) (λ i k. go i k (le_or_lt m i)))) l
+    subst (λ (y : ℕ). y < 2 ^ m) (sym (word_ext n h (omega (arith, mod-le x (2 ^ m))) (λ i k. go i k (cases_lt i m)))) l
   where
-    go : (i : ℕ) → i < n → (m ≤ i) ⊎ (i < m) → bit x i ≡ bit (x % 2 ^ m) i
-    go i k (inl l) = f i k l ∙ sym (bit_none i (mod-lt x (pow_pos m)) l)
-    go i k (inr l) = sym (bit_low x m i l)
+    go : (i : ℕ) → i < n → (i < m) ⊎ (m ≤ i) → bit x i ≡ bit (x % 2 ^ m) i
+    go i k (inl l) = sym (bit_low x m i l)
+    go i k (inr l) = f i k l ∙ sym (bit_none i (mod-lt x (pow_pos m)) l)
 
 -- a bit of both words
 pub and_bit : (a b i : ℕ) → bit (bit_and a b) i ≡ min (bit a i) (bit b i)

@@ -16,7 +16,9 @@ use lib.Count.{ones}
 use borrow.Author.Tests.{eq-eqb, ne_eqb, lt-ltb, ltb-true}
 use Rattle.basics.specs.Lists.{at, list_of}
 use Rattle.basics.specs.Tests.{every}
-use Rattle.basics.proofs.Tests.{leb_iff, eqb_iff, not_iff, and_iff, imp_iff, every_iff, bool_ext, le_or_lt}
+use Rattle.std.proofs.lemmas.Bool.Decides.{Decides-eqb}
+use Rattle.basics.proofs.Tests.{leb_iff, not_iff, and_iff, imp_iff, every_iff, bool_ext}
+use Rattle.std.proofs.lemmas.Bool.{cases_lt}
 use Rattle.basics.proofs.Lists.{length_list, at_list}
 use Rattle.labels.specs.Labels.{hears, heard}
 use Rattle.bit_words.specs.Bits.{bit, is_set, word_of}
@@ -77,20 +79,20 @@ module _ (rows : ℕ) {heard receiver : ℕ} (h : heard < 2 ^ 64) (r : receiver 
   words_at =
       every_iff 64
       (λ i k.
-      and_iff (imp_iff (eqb_iff (bit receiver i) 1) (eqb_iff (bit heard i) 1))
-      (imp_iff (leb_iff rows i) (and_iff (not_iff (eqb_iff (bit heard i) 1)) (not_iff (eqb_iff (bit receiver i) 1)))))
+      and_iff (imp_iff (Decides-eqb (bit receiver i) 1) (Decides-eqb (bit heard i) 1))
+      (imp_iff (leb_iff rows i) (and_iff (not_iff (Decides-eqb (bit heard i) 1)) (not_iff (Decides-eqb (bit receiver i) 1)))))
 
   pub carried_iff : (are_words rows heard receiver ≡ true) ↔ Carried rows heard receiver
   carried_iff = Iff.trans words_at (from, to)
     where
       -- a bit that cannot be 1 where there is one is 0
       none : {x : ℕ} → x < 2 ^ 64 → (i : ℕ) → (i < 64 → bit x i ≡ 1 → ⊥) → bit x i ≡ 0
-      none {x} l i n = ⊎_elim (λ k. bit_none i l k) (λ k. zero_bit x i (n k)) (le_or_lt 64 i)
+      none {x} l i n = ⊎_elim (λ k. zero_bit x i (n k)) (λ k. bit_none i l k) (cases_lt i 64)
 
       from : ((i : ℕ) → i < 64 → At i) → Carried rows heard receiver
       from f =
           record {
-            receiver_heard = λ i e. ⊎_elim (λ k. absurd (omega (arith, bit_none i r k))) (λ k. (f i k).0 e) (le_or_lt 64 i);
+            receiver_heard = λ i e. ⊎_elim (λ k. (f i k).0 e) (λ k. absurd (omega (arith, bit_none i r k))) (cases_lt i 64);
             heard_none = λ i l. none h i (λ k. ((f i k).1 l).0);
             receiver_none = λ i l. none r i (λ k. ((f i k).1 l).1);
           }
@@ -220,7 +222,7 @@ module _ (rows heard receiver : ℕ) where
   pub receiver_back : receiver < 2 ^ rows → Carried rows heard receiver → word_for Receiver (labels_from rows heard receiver) ≡ receiver
   receiver_back h c =
       word_from Receiver receiver h
-      (λ i l. go (is_set heard i) (is_set receiver i) (λ e. eq-eqb (bit heard i) 1 (c.receiver_heard i ((eqb_iff (bit receiver i) 1).0 e))))
+      (λ i l. go (is_set heard i) (is_set receiver i) (λ e. eq-eqb (bit heard i) 1 (c.receiver_heard i ((Decides-eqb (bit receiver i) 1).0 e))))
     where
       go : (a b : Bool) → (b ≡ true → a ≡ true) → tells Receiver (label_by a b) ≡ b
       go true true f = refl

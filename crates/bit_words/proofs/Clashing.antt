@@ -1,56 +1,29 @@
--- Clash words: what the functions make of windows alone, and what the bits of a clash word say.
-use Prim.Native.Nat.{ℕ, zero, suc, ◌≤◌, ◌<◌}
-use mathlib.Core.Path.{◌≡◌, sym, refl, ap}
+-- Clash words: what their checks leave known, and what the bits of a clash word say.
+use Prim.Native.Nat.{ℕ, ◌<◌}
+use mathlib.Core.Path.{◌≡◌}
 use mathlib.Core.Logic.{◌≢◌, ◌↔◌}
 use mathlib.Core.Bool.{true}
-use mathlib.Core.List.{List, ◌∷◌}
-use native.Mathlib.Omega.{arith}
-use lib.ListN.{length, take, replicate, length-replicate}
-use Rattle.basics.proofs.Tests.{eqb_iff, not_iff, and_iff}
+use Rattle.std.proofs.lemmas.Bool.Decides.{Decides-eqb}
+use Rattle.basics.proofs.Tests.{not_iff, and_iff}
 use Rattle.basics.proofs.Lists.{length_list, at_list}
 use Rattle.refusals.specs.Refusals.{◌then◌}
 use Rattle.refusals.proofs.Refusals.{Passed, then_passed}
-use Rattle.table.specs.declared.Setting.{Setting}
 use Rattle.table.specs.Tables.{Table, rows, row_at, Clash, ValidRow}
-use Rattle.table.specs.Checks.{lengths_refusal, lists_refusal, ticks_refusal, gap_refusal, rows_looked}
+use Rattle.table.specs.Checks.{ticks_refusal, gap_refusal, rows_looked}
 use Rattle.table.proofs.Checked.{rows_passed, row_passed}
 use Rattle.table.proofs.Plans.{clashes_iff}
 use Rattle.bit_words.specs.Bits.{bit}
-use Rattle.bit_words.specs.Clashes.{windows_of, ClashWords, is_clash, clash_word, clash_words_of, clash_refusal}
+use Rattle.bit_words.specs.Clashes.{ClashWords, is_clash, clash_word, clash_words_of}
 use Rattle.bit_words.specs.Lent.{windows_refusal}
 use Rattle.bit_words.proofs.BitLaws.{word_iff}
 
--- ---- windows alone
-
--- so many zeros of more
-pub take_zeros : (n m : ℕ) → n ≤ m → take {A = ℕ} n (replicate m 0) ≡ replicate n 0
-take_zeros zero m h = refl
-take_zeros (suc n) zero h = absurd (omega arith)
-take_zeros (suc n) (suc m) h = ap (λ (l : List ℕ). 0 ∷ l) (take_zeros n m (omega arith))
-
-module _ (S : Setting) (starts ends : List ℕ) where
-  pub each_mark : length (windows_of S starts ends).marks ≡ length starts
-  each_mark = length-replicate (length starts) 0
-
-  -- 1 and 2, by the lengths of the three lists that are lent, and then the other checks
-  pub lengths_then : (words : ℕ) → (lengths_refusal (length starts) (length ends) (length starts) words then windows_refusal (windows_of S starts ends)) ≡ clash_refusal (windows_of S starts ends) words
-  unfolding clash_refusal
-  lengths_then words =
-      ap (λ (m : ℕ). lengths_refusal (length starts) (length ends) m words then windows_refusal (windows_of S starts ends)) (sym each_mark)
-
 -- ---- what the checks leave known
 
-module _ (t : Table) (words : List ℕ) (p : Passed (clash_refusal t (length words))) where
-  clash_passed : Passed (rows_looked t).refusal
-  unfolding clash_refusal
-  clash_passed =
-      let rest = gap_refusal t.setting.gap then (rows_looked t).refusal in
-      let f = then_passed (lists_refusal t words) (ticks_refusal t.setting.ticks then rest) p in
-      let g = then_passed (ticks_refusal t.setting.ticks) rest f.1 in
-      (then_passed (gap_refusal t.setting.gap) (rows_looked t).refusal g.1).1
-
-  pub valid_rows : (i : ℕ) → i < rows t → ValidRow t.setting (row_at t i)
-  valid_rows i h = row_passed t.setting (row_at t i) ((rows_passed t clash_passed).1 i h)
+pub valid_rows : (t : Table) → Passed (windows_refusal t) → (i : ℕ) → i < rows t → ValidRow t.setting (row_at t i)
+valid_rows t p i h =
+    let f = then_passed (ticks_refusal t.setting.ticks) (gap_refusal t.setting.gap then (rows_looked t).refusal) p in
+    let g = then_passed (gap_refusal t.setting.gap) (rows_looked t).refusal f.1 in
+    row_passed t.setting (row_at t i) ((rows_passed t g.1).1 i h)
 
 -- ---- what the bits say
 
@@ -63,7 +36,7 @@ module _ (t : Table) (valid : (i : ℕ) → i < rows t → ValidRow t.setting (r
   )
     where
       says : (j : ℕ) → j < rows t → (is_clash t i j ≡ true) ↔ ((i ≢ j) × Clash t.setting (row_at t i) (row_at t j))
-      says j l = and_iff (not_iff (eqb_iff i j)) (clashes_iff t.setting (row_at t i) (row_at t j) (valid i h) (valid j l))
+      says j l = and_iff (not_iff (Decides-eqb i j)) (clashes_iff t.setting (row_at t i) (row_at t j) (valid i h) (valid j l))
 
   pub clash_words : ClashWords t (clash_words_of t)
   clash_words =

@@ -14,7 +14,8 @@ use lib.Count.{ones}
 use borrow.Author.Tests.{eqb-true, leb-true}
 use Rattle.basics.specs.Limits.{max_rows}
 use Rattle.basics.specs.Lists.{at}
-use Rattle.basics.proofs.Tests.{eqb_iff, not_iff, bool_ext}
+use Rattle.std.proofs.lemmas.Bool.Decides.{Decides-eqb}
+use Rattle.basics.proofs.Tests.{not_iff, bool_ext}
 use Rattle.labels.specs.Labels.{heard}
 use Rattle.marks.specs.Marks.{Must}
 use Rattle.marks.proofs.Allowing.{must_iff}
@@ -39,11 +40,11 @@ told_bit word entries i says = Iff.trans (word_iff (λ k. tells word (at entries
 
 module _ (labels : List ℕ) (i : ℕ) where
   pub heard_bit : (bit (word_for Heard labels) i ≡ 1) ↔ ((i < length labels) × (at labels i ≢ 0))
-  heard_bit = told_bit Heard labels i (not_iff (eqb_iff (at labels i) 0))
+  heard_bit = told_bit Heard labels i (not_iff (Decides-eqb (at labels i) 0))
 
   -- "The receiver bit is 1 for receiver 2, and 0 for a row not heard"
   pub receiver_bit_iff : (bit (word_for Receiver labels) i ≡ 1) ↔ ((i < length labels) × (at labels i ≡ 2))
-  receiver_bit_iff = told_bit Receiver labels i (eqb_iff (at labels i) 2)
+  receiver_bit_iff = told_bit Receiver labels i (Decides-eqb (at labels i) 2)
 
   pub receiver_not_heard_0 : at labels i ≡ 0 → bit (word_for Receiver labels) i ≡ 0
   receiver_not_heard_0 e = zero_bit (word_for Receiver labels) i (λ b. omega (arith, (receiver_bit_iff.0 b).1))

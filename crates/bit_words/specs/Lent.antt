@@ -1,7 +1,7 @@
 -- Inner: What the functions of the crate `bit_words` lend each other.
-use Rattle.std.specs.Prelude.{ℕ, ◌^◌, ◌≤◌, ◌<◌, ◌≡◌, Bool, length}
+use Rattle.std.specs.Prelude.{ℕ, ◌^◌, ◌≤◌, ◌<◌, ◌≡◌, Bool, leb, length}
 use Rattle.basics.specs.Limits.{max_rows}
-use Rattle.refusals.specs.Refusals.{Outcome, ◌then◌}
+use Rattle.refusals.specs.Refusals.{Outcome, asked, ◌then◌, Rows}
 use Rattle.table.specs.Tables.{Table, rows}
 use Rattle.table.specs.Checks.{ticks_refusal, gap_refusal, rows_looked}
 use Rattle.bit_words.specs.Bits.{word_bits, word_of}
@@ -24,3 +24,7 @@ pub record RowsLent (t : Table) : Type 0 where
 -- the checks that follow: 4, 14, and then the rows from 0, each for 6
 abbrev pub windows_refusal : Table → Outcome
 windows_refusal t = ticks_refusal t.setting.ticks then gap_refusal t.setting.gap then (rows_looked t).refusal
+
+-- check 2 alone
+abbrev pub rows_refusal : ℕ → Outcome
+rows_refusal n = asked (leb n max_rows) Rows

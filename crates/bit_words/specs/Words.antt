@@ -1,5 +1,6 @@
 -- Believed: Labels and marks as words (request 8 of paper 02): which bit says what, and what each call gives, whole, on every input.
 use Rattle.std.specs.Prelude.{ℕ, Bool, cond, not, ◌&&◌, List, leb, eqb, length, Result, Ok, Err}
+use Rattle.std.specs.Int.Count.{ones}
 use Rattle.basics.specs.Limits.{max_rows}
 use Rattle.basics.specs.Lists.{at, list_of}
 use Rattle.basics.specs.Tests.{◌⇒◌, every}
@@ -50,9 +51,9 @@ pub record LabelWords : Type 0 where
 abbrev pub label_words : Outcome → ℕ → ℕ → ℕ → LabelWords
 label_words refusal count heard receiver = record { refusal = refusal; count = count; heard = heard; receiver = receiver }
 
--- what a call reports that gives the words or a refusal
+-- what a call reports that gives the words or a refusal; "The number heard is the number of ones"
 abbrev pub words_given : Result Made Refusal → LabelWords
-words_given (Ok w) = label_words Accepted w.count w.heard w.receiver
+words_given (Ok w) = label_words Accepted (ones w.heard) w.heard w.receiver
 words_given (Err r) = label_words (Err r) 0 0 0
 
 -- THE RIGHT ANSWER of a call that makes words of labels: the number heard and the two words; a refusal "gives words of 0"

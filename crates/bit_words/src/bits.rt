@@ -8,6 +8,7 @@ ghost use Rattle.bit_words.specs.Lent.{BitAbove, WordBy};
 const WORD_BITS: usize = 64;
 
 // A word with bit i set where it is asked for. The word has no bit from i on.
+#[tactic(auto, using(crate::proofs::BitLaws::or_placed))]
 fn with_bit(word: u64, i: usize, set: bool) -> u64
     requires { BitAbove word i }
     ensures { result ≡ word + cond set (2 ^ i) 0 }
@@ -16,6 +17,7 @@ fn with_bit(word: u64, i: usize, set: bool) -> u64
 }
 
 // The word of n rows, with bit i set for each row i of which the test holds.
+#[tactic(auto, using(crate::proofs::BitLaws::word_none, crate::proofs::BitLaws::word_more, crate::proofs::BitLaws::below_more))]
 pub fn word_of<F: Fn(usize) -> bool>(n: usize, test: F) -> u64
     requires few { n ≤ word_bits }
     requires callable { (i : ℕ) → i < n → F.pre test i }
@@ -37,19 +39,17 @@ pub fn has_bit(word: u64, i: usize) -> bool
 }
 
 // Whether the word has no bit from n on. Of 64 bits nothing lies above, and no shift by 64 is made.
+#[tactic(auto, using(crate::proofs::BitLaws::below_test))]
 pub fn is_below(word: u64, n: usize) -> bool
     requires { n ≤ word_bits }
     ensures { result ≡ ltb word (2 ^ n) }
 {
-    if n == WORD_BITS {
-        return true;
-    }
-    word >> n == 0
+    n == WORD_BITS || word >> n == 0
 }
 
-// How many bits are 1.
+// How many bits are 1. `as`, since std has no `From<u32>` for usize.
 pub fn ones_in(word: u64) -> usize
     ensures { result ≡ ones word }
 {
-    u64::count_ones(word) as usize
+    word.count_ones() as usize
 }

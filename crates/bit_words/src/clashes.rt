@@ -37,6 +37,7 @@ fn check_windows(table: Table) -> Result<(), Refusal>
 }
 
 // Whether rows i and j are different rows that clash.
+#[tactic(auto, unfolding(crate::specs::Clashes::is_clash))]
 fn is_other_clash(table: Table, i: usize, j: usize) -> bool
     requires row_in { RowIn table.rows.starts.now table.rows.ends.now table.rows.marks.now i }
     requires row_in_2 { RowIn table.rows.starts.now table.rows.ends.now table.rows.marks.now j }
@@ -46,6 +47,7 @@ fn is_other_clash(table: Table, i: usize, j: usize) -> bool
 }
 
 // The clash word of row i.
+#[tactic(auto, unfolding(crate::specs::Clashes::clash_word))]
 fn clash_word(table: Table, i: usize) -> u64
     requires rows_lent { RowsLent (lent table) }
     requires i_in_bounds { i < length table.rows.starts.now }
@@ -55,17 +57,19 @@ fn clash_word(table: Table, i: usize) -> u64
 }
 
 // Fills in the clash word of each row.
+#[tactic(auto, using(basics::proofs::Filling::filled_none, basics::proofs::Filling::filled_more, basics::proofs::Filling::filled_list))]
 fn set_words(table: Table, words: &mut [u64])
     requires rows_lent { RowsLent (lent table) }
     requires words_len { length words.old ≡ length table.rows.starts.now }
     ensures { words.new ≡ clash_words_of (lent table.entry) }
 {
-    for i in 0..words.len() {
-        words[i] = clash_word(table, i);
+    for (i, word) in words.iter_mut().enumerate() {
+        *word = clash_word(table, i);
     }
 }
 
 // THE CLASH WORDS of windows, into a list with a place for each row: what the definition `clash_call` yields, on every input. Hours are neither checked nor used.
+#[tactic(auto, unfolding(crate::specs::Clashes::clash_call, crate::specs::Clashes::clash_refusal))]
 pub fn clash_words(
     setting: Setting,
     starts: &[u16],

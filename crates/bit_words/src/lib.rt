@@ -1,10 +1,13 @@
 // One bit per row (request 8 of paper 02): labels as a heard and a receiver word and back, marks as a must word, and for each row a word of the rows that clash with it.
 #![tactic(auto)]
 
-ghost use Rattle.std.specs.Prelude.{◌≡◌, ◌≤◌, length};
+ghost use Rattle.std.specs.Prelude.{◌≡◌, ◌≤◌, ◌<◌, length};
+ghost use Rattle.std.specs.Int.Count.{ones};
 ghost use Rattle.basics.specs.Limits.{max_rows};
 ghost use Rattle.refusals.specs.Refusals.{answer_of};
+ghost use Rattle.bit_words.specs.Bits.{word_bits, is_set};
 ghost use Rattle.bit_words.specs.Words.{are_labels, words_given, words_call, label_by, are_words, labels_from, labels_given, labels_call, must_given, must_call};
+ghost use Rattle.bit_words.specs.Lent.{rows_refusal};
 
 use basics::MAX_ROWS;
 use refusals::Refusal;
@@ -12,12 +15,54 @@ use refusals::Refusal;
 mod bits;
 pub mod clashes;
 
-// What labels are as words: the number heard, and the two words.
+// Labels as words: bit i of the one is 1 where row i is heard, and of the other where receiver 2 hears it.
 #[derive(Clone, Copy, Debug, PartialEq, Eq)]
 pub struct LabelWords {
-    pub count: usize,
     pub heard: u64,
     pub receiver: u64,
+}
+
+impl LabelWords {
+    // The number heard.
+    pub fn count(self) -> usize
+        ensures { result ≡ ones self.heard }
+    {
+        bits::ones_in(self.heard)
+    }
+
+    // Whether the words can be carried by so many labels.
+    #[tactic(auto, using(crate::proofs::Carrying::not_within, crate::proofs::Carrying::within))]
+    fn fit(self, rows: usize) -> bool
+        requires { rows ≤ max_rows }
+        ensures { result ≡ are_words rows self.heard self.receiver }
+    {
+        self.heard & self.receiver == self.receiver && bits::is_below(self.heard, rows)
+    }
+
+    // The label of row i, from its two bits.
+    fn label(self, i: usize) -> u8
+        requires { i < word_bits }
+        ensures { result ≡ label_by (is_set self.heard i) (is_set self.receiver i) }
+    {
+        match (
+            bits::has_bit(self.heard, i),
+            bits::has_bit(self.receiver, i),
+        ) {
+            (false, _) => 0,
+            (true, false) => 1,
+            (true, true) => 2,
+        }
+    }
+}
+
+// Check 2, of labels, marks or words for so many rows.
+fn check_rows(rows: usize) -> Result<(), Refusal>
+    ensures { result ≡ rows_refusal rows }
+{
+    if MAX_ROWS < rows {
+        return Err(Refusal::Rows);
+    }
+    Ok(())
 }
 
 // Whether every label is 0, 1 or 2.
@@ -28,75 +73,49 @@ fn are_labels(labels: &[u8]) -> bool
 }
 
 // THE WORDS OF LABELS: what the definition `words_call` yields, on every input. The number heard is the number of ones of the heard word.
+#[tactic(auto, using(crate::proofs::Answering::words_ones), unfolding(crate::specs::Words::words_call, crate::specs::Words::labels_refusal))]
 pub fn words_of(labels: &[u8]) -> Result<LabelWords, Refusal>
     ensures { words_given result ≡ words_call labels.now }
 {
-    if MAX_ROWS < labels.len() {
-        return Err(Refusal::Rows);
-    }
+    check_rows(labels.len())?;
     if !are_labels(labels) {
         return Err(Refusal::NotPlan);
     }
-    let heard = bits::word_of(labels.len(), |i| labels[i] != 0);
-    let receiver = bits::word_of(labels.len(), |i| labels[i] == 2);
     Ok(LabelWords {
-        count: bits::ones_in(heard),
-        heard,
-        receiver,
+        heard: bits::word_of(labels.len(), |i| labels[i] != 0),
+        receiver: bits::word_of(labels.len(), |i| labels[i] == 2),
     })
 }
 
-// Whether the words can be carried by so many labels.
-fn are_words(rows: usize, heard: u64, receiver: u64) -> bool
-    requires { rows ≤ max_rows }
-    ensures { result ≡ are_words rows heard receiver }
-{
-    if heard & receiver != receiver {
-        return false;
-    }
-    bits::is_below(heard, rows)
-}
-
-// A row's label, from its two bits.
-fn label_by(heard: bool, receiver: bool) -> u8
-    ensures { result ≡ label_by heard receiver }
-{
-    if !heard {
-        return 0;
-    }
-    if receiver { 2 } else { 1 }
-}
-
 // Fills the labels from the words.
-fn set_labels(heard: u64, receiver: u64, labels: &mut [u8])
+#[tactic(auto, using(basics::proofs::Filling::filled_none, basics::proofs::Filling::filled_more, basics::proofs::Filling::filled_list), unfolding(crate::specs::Words::labels_from))]
+fn set_labels(words: LabelWords, labels: &mut [u8])
     requires { length labels.old ≤ max_rows }
-    ensures { labels.new ≡ labels_from (length labels.old) heard receiver }
+    ensures { labels.new ≡ labels_from (length labels.old) words.heard words.receiver }
 {
-    for i in 0..labels.len() {
-        labels[i] = label_by(bits::has_bit(heard, i), bits::has_bit(receiver, i));
+    for (i, label) in labels.iter_mut().enumerate() {
+        *label = words.label(i);
     }
 }
 
 // THE LABELS OF WORDS, a place for each row: what the definition `labels_call` yields, on every input.
-pub fn labels_of(heard: u64, receiver: u64, labels: &mut [u8]) -> Result<usize, Refusal>
-    ensures { labels_given (answer_of result) labels.new ≡ labels_call heard receiver labels.old }
+#[tactic(auto, using(crate::proofs::Answering::labels_ones), unfolding(crate::specs::Words::labels_call, crate::specs::Words::words_refusal))]
+pub fn labels_of(words: LabelWords, labels: &mut [u8]) -> Result<usize, Refusal>
+    ensures { labels_given (answer_of result) labels.new ≡ labels_call words.heard words.receiver labels.old }
 {
-    if MAX_ROWS < labels.len() {
-        return Err(Refusal::Rows);
-    }
-    if !are_words(labels.len(), heard, receiver) {
+    check_rows(labels.len())?;
+    if !words.fit(labels.len()) {
         return Err(Refusal::NotPlan);
     }
-    set_labels(heard, receiver, labels);
-    Ok(bits::ones_in(heard))
+    set_labels(words, labels);
+    Ok(words.count())
 }
 
 // THE MUST WORD OF MARKS: what the definition `must_call` yields, on every input.
+#[tactic(auto, unfolding(crate::specs::Words::must_call))]
 pub fn must_of(marks: &[u8]) -> Result<u64, Refusal>
     ensures { must_given result ≡ must_call marks.now }
 {
-    if MAX_ROWS < marks.len() {
-        return Err(Refusal::Rows);
-    }
+    check_rows(marks.len())?;
     Ok(bits::word_of(marks.len(), |i| marks::is_must(marks[i])))
 }

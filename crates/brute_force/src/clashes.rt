@@ -2,7 +2,7 @@
 // A set of rows is a number whose bit i says that row i, below 8, is in it.
 use crate::windows::{Day, Kind, Row, Window, after};
 
-// The set of one row.
+// The set of one row. A set of rows takes 8 bits and a set of ticks 64 (`windows`), and a shift has no trait that one function of both could ask for.
 pub fn one(row: usize) -> u8 {
     1 << (row % 8)
 }

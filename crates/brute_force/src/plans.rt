@@ -11,14 +11,10 @@ pub struct Plan {
     pub labels: [u8; 8],
 }
 
-// What the search found.
-#[derive(Clone, Copy)]
+// What the search found: the first of the plans that hear most, if there is a plan; how many plans there are, and how many of them hear most.
+#[derive(Clone, Copy, Default)]
 pub struct Found {
-    // the first of the plans that hear most, if there is a plan
     pub plan: Option<Plan>,
-    // the number of its label list (`judge`); 0 where there is no plan
-    pub first: u32,
-    // how many plans there are, and how many of them hear most
     pub plans: u32,
     pub best: u32,
 }
@@ -27,6 +23,24 @@ impl Found {
     // The plan's labels; all 0 where there is none.
     pub fn labels(&self) -> [u8; 8] {
         self.plan.map_or([0; 8], |plan| plan.labels)
+    }
+
+    // One plan more. It takes the place of the first best only if it hears more.
+    fn with_plan(self, plan: Plan) -> Found {
+        let plans = self.plans.wrapping_add(1);
+        match self.plan.map(|best| best.heard).cmp(&Some(plan.heard)) {
+            Ordering::Less => Found {
+                plan: Some(plan),
+                plans,
+                best: 1,
+            },
+            Ordering::Equal => Found {
+                plans,
+                best: self.best.wrapping_add(1),
+                ..self
+            },
+            Ordering::Greater => Found { plans, ..self },
+        }
     }
 }
 
@@ -38,126 +52,85 @@ struct Receivers {
     rows2: u8,
 }
 
-// What the search has seen so far: the most that a plan hears, if there is one, and as in `Found`.
-#[derive(Clone, Copy, Default)]
-struct Tally {
-    heard: Option<u8>,
-    first: u32,
-    plans: u32,
-    best: u32,
+// What the rules say of a row: which rows clash with it, and which labels it may have, both as sets.
+#[derive(Clone, Copy)]
+pub struct Rules {
+    clashes: u8,
+    permission: u8,
 }
 
-// A row may be heard by a receiver if its permission has the receiver's bit and it clashes with none of the receiver's rows.
-fn may_hear(rows: u8, clashes: u8, permission: u8, receiver: u8) -> bool {
-    permission & receiver != 0 && rows & clashes == 0
+pub fn rules_of(clashes: &[u8; 8], permissions: &[u8; 8]) -> [Rules; 8] {
+    std::array::from_fn(|i| Rules {
+        clashes: clashes[i],
+        permission: permissions[i],
+    })
+}
+
+impl Rules {
+    // The row may be heard by a receiver if its permission has the receiver's bit and it clashes with none of the receiver's rows.
+    fn allow(self, receiver: u8, rows: u8) -> bool {
+        self.permission & receiver != 0 && rows & self.clashes == 0
+    }
 }
 
 impl Receivers {
     // One row more, as the set `row`, with a label; None if it is against the rules.
-    fn with_row(self, row: u8, clashes: u8, permission: u8, label: u8) -> Option<Receivers> {
+    fn with_row(self, row: u8, rules: Rules, label: u8) -> Option<Receivers> {
         match label {
-            1 if may_hear(self.rows1, clashes, permission, 2) => Some(Receivers {
+            1 if rules.allow(2, self.rows1) => Some(Receivers {
                 heard: self.heard.wrapping_add(1),
                 rows1: self.rows1 | row,
                 ..self
             }),
-            2 if may_hear(self.rows2, clashes, permission, 4) => Some(Receivers {
+            2 if rules.allow(4, self.rows2) => Some(Receivers {
                 heard: self.heard.wrapping_add(1),
                 rows2: self.rows2 | row,
                 ..self
             }),
-            0 if permission & 1 != 0 => Some(self),
+            0 if rules.permission & 1 != 0 => Some(self),
             _ => None,
         }
     }
 }
 
+// How many label lists there are of so many rows: 3 to that power.
+pub const LISTS: [u16; 8] = [1, 3, 9, 27, 81, 243, 729, 2187];
+
 // The labels in order: "1 comes before 2, and 2 before 0".
 const ORDER: [u8; 3] = [1, 2, 0];
 
-// The label that a number's lowest digit to base 3 stands for.
-fn label(number: u32) -> u8 {
-    ORDER[(number % 3) as usize]
-}
-
-// How many label lists there are.
-fn lists(rows: usize) -> u32 {
-    3u32.pow(rows.min(7) as u32)
-}
-
-// What a list has of a row.
-fn entry(list: &[u8; 8], row: usize) -> u8 {
-    list.get(row).copied().unwrap_or(0)
-}
-
-// How many rows the label list of a number hears, if it is a plan: its digits to base 3 are the places of the labels in the order, the last row's digit the lowest.
+// The label list of a number: its digits to base 3 are the places of the labels in the order, the last row's digit the lowest.
 // So the numbers rise as the lists come in paper 01's order.
-pub fn judge(rows: usize, number: u32, clashes: &[u8; 8], permissions: &[u8; 8]) -> Option<u8> {
-    let mut receivers = Receivers::default();
-    let mut rest = number;
-    for row in (0..rows).rev() {
-        receivers = receivers.with_row(
-            one(row),
-            entry(clashes, row),
-            entry(permissions, row),
-            label(rest),
-        )?;
-        rest /= 3;
-    }
-    Some(receivers.heard)
-}
-
-// The labels of the list of a number.
-pub fn labels(rows: usize, number: u32) -> [u8; 8] {
+pub fn labels(rows: usize, number: u16) -> [u8; 8] {
     let mut list = [0; 8];
     let mut rest = number;
-    for row in (0..rows).rev() {
-        if row < 8 {
-            list[row] = label(rest);
-        }
+    for row in (0..rows.min(8)).rev() {
+        list[row] = ORDER[usize::from(rest % 3)];
         rest /= 3;
     }
     list
 }
 
-impl Tally {
-    // One plan more. It takes the place of the first best only if it hears more.
-    fn with_plan(self, number: u32, heard: u8) -> Tally {
-        let plans = self.plans.wrapping_add(1);
-        match self.heard.cmp(&Some(heard)) {
-            Ordering::Less => Tally {
-                heard: Some(heard),
-                first: number,
-                plans,
-                best: 1,
-            },
-            Ordering::Equal => Tally {
-                plans,
-                best: self.best.wrapping_add(1),
-                ..self
-            },
-            Ordering::Greater => Tally { plans, ..self },
-        }
+// How many rows the labels, at most 8, hear, if they are a plan of as many rows.
+pub fn judge(labels: &[u8], rules: &[Rules; 8]) -> Option<u8> {
+    let mut receivers = Receivers::default();
+    for (row, (label, rules)) in labels.iter().zip(rules).enumerate() {
+        receivers = receivers.with_row(one(row), *rules, *label)?;
     }
+    Some(receivers.heard)
 }
 
-// Tries every label list of the first `rows` rows, at most 7, of which each has a set of rows that clash with it and a permission.
-pub fn search(rows: usize, clashes: &[u8; 8], permissions: &[u8; 8]) -> Found {
-    let mut tally = Tally::default();
-    for number in 0..lists(rows) {
-        if let Some(heard) = judge(rows, number, clashes, permissions) {
-            tally = tally.with_plan(number, heard);
+// Tries every label list of the first `rows` rows, at most 7.
+pub fn search(rows: usize, rules: &[Rules; 8]) -> Found {
+    let count = rows.min(7);
+    let mut found = Found::default();
+    for number in 0..LISTS[count] {
+        let labels = labels(count, number);
+        if let Some(heard) = judge(&labels[..count], rules) {
+            found = found.with_plan(Plan { heard, labels });
         }
     }
-    Found {
-        plan: tally.heard.map(|heard| Plan {
-            heard,
-            labels: labels(rows, tally.first),
-        }),
-        first: tally.first,
-        plans: tally.plans,
-        best: tally.best,
-    }
+    found
 }
 
 // Two plans, or a plan and none, are not the same.

@@ -59,7 +59,7 @@ pub fn run_set(start: u16, end: u16) -> u64 {
     (start..end).fold(0, |set, tick| set | one(tick))
 }
 
-// The arc of `length` ticks from `start` on, on a circle of `ticks` ticks.
+// The arc of `length` ticks from `start` on, on a circle of `ticks` ticks: a walk of so many steps, where that of a window ends at a tick.
 fn arc_set(ticks: u16, start: u16, length: u16) -> u64 {
     let mut set = 0;
     let mut tick = start;
@@ -88,18 +88,7 @@ pub fn arc_sets(ticks: u16, starts: &[u16; 8], lengths: &[u16; 8]) -> [u64; 8] {
     std::array::from_fn(|i| arc_set(ticks, starts[i], lengths[i]))
 }
 
-// The rows of a call's lists.
-pub fn rows_of(starts: &[u16; 8], ends: &[u16; 8], marks: &[u8; 8]) -> [Row; 8] {
-    std::array::from_fn(|i| Row {
-        window: Window {
-            start: starts[i],
-            end: ends[i],
-        },
-        mark: marks[i],
-    })
-}
-
-// The labels that a mark leaves a row, as bits: bit 0 for not heard, bit 1 for receiver 1, bit 2 for receiver 2.
+// The labels that a mark leaves a row, as a set: bit 0 for not heard, bit 1 for receiver 1, bit 2 for receiver 2. As a set it takes no loop to say what both mark and hours leave (`&`).
 // "0 and 1 as before, 2 and 3 may and must on receiver 1 only, 4 and 5 may and must on receiver 2 only."
 fn marked(mark: u8) -> u8 {
     match mark {

@@ -10,9 +10,10 @@ use lib.ListN.{length}
 use borrow.Author.Tests.{eq-eqb, ne_eqb, eqb-true, leb-true}
 use Rattle.std.specs.Prelude.{Option as Maybe, Some, None, is_some, is_err}
 use Rattle.basics.specs.Limits.{max_rows}
-use Rattle.basics.proofs.Tests.{eqb_iff, leb_iff, and_iff}
+use Rattle.std.proofs.lemmas.Bool.Decides.{Decides-eqb}
+use Rattle.basics.proofs.Tests.{leb_iff, and_iff}
 use Rattle.refusals.specs.Refusals.{number_of, passes, ◌then◌, Accepted, Space, NoPlan, Candidates, Outcome}
-use Rattle.refusals.proofs.Refusals.{Passed, err_refuses, ok_passes, asked_passed, then_passed, then_either}
+use Rattle.refusals.proofs.Refusals.{Passed, passed_accepted, err_refuses, ok_passes, asked_passed, then_passed, then_either}
 use Rattle.table.specs.declared.Looked.{Looked}
 use Rattle.table.specs.Tables.{Table, rows}
 use Rattle.table.specs.Checks.{looked, table_looked}
@@ -130,9 +131,9 @@ module _ (t : Table) (c : CandidateLists) (numbers counts space : List ℕ) wher
       no_plan_given n s = rw (all k) (no_plan_so (rows t) s ∙ ap gives (sym (table_8_reported t c (checks_passed t e k) (sym b ∙ none_there best (told ∙ ap not n)))))
 
       pub all_given : none_left ≡ false → {read : ℕ} → read ≡ read_beside t c → {numbers' counts' space' : List ℕ} → numbers' ≡ numbers_tried t c → counts' ≡ counts_tried t c → space' ≡ space_after Accepted space
-          → called (looked Accepted (l.rows + read)) numbers' counts' space' ≡ gives (table_tried t c)
+          → called (looked l.refusal (l.rows + read)) numbers' counts' space' ≡ gives (table_tried t c)
       all_given n r x y s =
-          rw (all k, r, rows_read t c)
+          rw (passed_accepted l.refusal (ok_passes l.refusal k), all k, r, rows_read t c)
           (accepted_so (rows_with t c) x y s ∙ ap gives (sym (table_taken t c (checks_passed t e k) (λ z. some_there best (told ∙ ap not n) (b ∙ z)))))
 
   -- ---- the checks of what is lent
@@ -188,7 +189,7 @@ module _ (t : Table) (c : CandidateLists) (numbers counts space : List ℕ) wher
       let n = size c in
       let ok = eqb (length c.ends) n && eqb (length c.marks) n && eqb (length numbers) n && eqb (length counts) n && leb n max_candidates in
       let f =
-      (and_iff (and_iff (and_iff (and_iff (eqb_iff (length c.ends) n) (eqb_iff (length c.marks) n)) (eqb_iff (length numbers) n)) (eqb_iff (length counts) n)) (leb_iff n max_candidates)
+      (and_iff (and_iff (and_iff (and_iff (Decides-eqb (length c.ends) n) (Decides-eqb (length c.marks) n)) (Decides-eqb (length numbers) n)) (Decides-eqb (length counts) n)) (leb_iff n max_candidates)
       ).0 (asked_passed ok Candidates (omega arith) p) in
       record { few = f.1; each_end = f.0.0.0.0; each_mark = f.0.0.0.1; each_number = f.0.0.1; each_count = f.0.1 }
 

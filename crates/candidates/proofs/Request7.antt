@@ -147,9 +147,6 @@ module _ (t : Table) (c : CandidateLists) (numbers counts space : List ℕ) wher
       go true e = f (eqb-true (number_of report.refusal) 0 e)
       go false e = g (eqb-false (number_of report.refusal) 0 e)
 
-  pub call_reports : call.reports ≡ report
-  call_reports = call_either (λ g. g.reports ≡ report) (λ p. refl) (λ n. refl)
-
   -- ---- the answers
 
   -- a refused call leaves the answers

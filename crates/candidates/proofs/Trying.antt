@@ -9,10 +9,10 @@ use borrow.Author.Tests.{eq-eqb, lt-leb}
 use Rattle.basics.specs.Limits.{max_rows}
 use Rattle.marks.proofs.Raising.{raised_within}
 use Rattle.window.specs.declared.Row.{Row}
-use Rattle.std.specs.Prelude.{Option, Result, Err, IfOk, ok_or}
+use Rattle.std.specs.Prelude.{Option, Result, Ok, Err, IsErrAnd, IfOk, ok_or}
 use Rattle.refusals.specs.declared.Refusal.{Refusal}
 use Rattle.refusals.specs.declared.Refusal.TheVariants as refusal
-use Rattle.refusals.specs.Refusals.{number_of, ◌then◌, Rows, Outcome}
+use Rattle.refusals.specs.Refusals.{number_of, ◌then◌, Rows}
 use Rattle.refusals.proofs.Refusals.{Passed, number_within, then_first}
 use Rattle.labels.proofs.Heard.{heard_le}
 use Rattle.table.specs.Tables.{Table, rows, Valid}
@@ -54,8 +54,9 @@ module _ (t : Table) (candidate : Row) where
         ∙ ap (λ r. answer (number_of r) 0) checks
 
     -- it is refused
-    pub tried_refused : {r : Outcome} {e : Refusal} → r ≡ row_refusal t.setting candidate → r ≡ Err e → told (Err e) ≡ tried t candidate
-    tried_refused {r} {e} h k = sym (refused_so (λ z. omega (arith, ap number_of (sym h ∙ k), (number_within e).0)) ∙ ap (λ x. answer (number_of x) 0) (sym h ∙ k))
+    pub tried_refused : {e : Refusal} → Err e ≡ row_refusal t.setting candidate → (r : Result ℕ Refusal) → IsErrAnd r (λ y. y ≡ e) → told r ≡ tried t candidate
+    tried_refused q (Ok n) h = absurd h
+    tried_refused {e} q (Err y) h = rw h (ap (λ x. answer (number_of x) 0) q ∙ sym (refused_so (λ z. omega (arith, ap number_of q, (number_within e).0))))
 
     -- it passes its checks
     pub tried_counted : Passed (row_refusal t.setting candidate) → tried t candidate ≡ told (ok_or (count_of (best_plan (table_with t candidate))) refusal.NoPlan)

@@ -1,4 +1,6 @@
 // Candidate windows tried against a table before casting (request 7 of paper 02): each alone, as an added row that must be heard.
+// The lists of answers and the working space are handed on one by one, as C lends them: of a struct of `&mut` lists each contract would also have to say that it lends the
+// same lists, and as long ones.
 #![tactic(auto)]
 
 ghost use Rattle.std.specs.Prelude.{◌≡◌, ◌<◌, ◌≤◌, IfOk, length, drop, replicate, set};
@@ -30,6 +32,7 @@ fn check_candidates(candidates: Rows, numbers: usize, counts: usize) -> Result<(
 }
 
 // Checks 1, 2, 3 and 16, of what is lent.
+#[tactic(auto, unfolding(crate::specs::Tried::lent_refusal, table::specs::Planned::space_refusal))]
 fn check_lent(
     table: Table,
     candidates: Rows,
@@ -39,13 +42,7 @@ fn check_lent(
 ) -> Result<(), Refusal>
     ensures { result ≡ lent_refusal (lent table.entry) (offered candidates.entry) numbers counts space }
 {
-    let rows = table.rows;
-    checks::check_lists(
-        rows.starts.len(),
-        rows.ends.len(),
-        rows.marks.len(),
-        rows.starts.len(),
-    )?;
+    table.rows.check_lists(table.rows.len())?;
     if space < SPACE_BYTES {
         return Err(Refusal::Space);
     }
@@ -70,8 +67,7 @@ fn try_row(table: Table, row: Row, space: &mut [u8]) -> Result<usize, Refusal>
     ensures space_unchanged { drop core_bytes space.new ≡ drop core_bytes space.old }
 {
     checks::check_row(table.setting, row)?;
-    let best = best_plan::count_with(table, must_row(row), space);
-    best.ok_or(Refusal::NoPlan)
+    best_plan::count_checked(table, Some(must_row(row)), space).ok_or(Refusal::NoPlan)
 }
 
 // Writes what candidate j is answered into the two lists that C lends: a refusal's number, 0 for accepted, and a count, 0 on a refusal.
@@ -87,7 +83,7 @@ fn set_answer(tried: Result<usize, Refusal>, j: usize, numbers: &mut [u8], count
             counts[j] = count as u8;
         }
         Err(refusal) => {
-            numbers[j] = u8::from(refusal);
+            numbers[j] = refusal.into();
             counts[j] = 0;
         }
     }
@@ -112,7 +108,7 @@ fn refuse_rows(numbers: &mut [u8], counts: &mut [u8])
     ensures numbers_after { numbers.new ≡ replicate (length numbers.old) 2 }
     ensures counts_after { counts.new ≡ replicate (length counts.old) 0 }
 {
-    numbers.fill(u8::from(Refusal::Rows));
+    numbers.fill(Refusal::Rows.into());
     counts.fill(0);
 }
 
@@ -155,19 +151,19 @@ fn try_table(
     if looked.refusal.is_err() {
         return looked;
     }
-    let best = best_plan::count_checked(table, space);
+    let best = best_plan::count_checked(table, None, space);
     if best.is_none() {
         best_plan::clear_space(space);
         return Looked {
             refusal: Err(Refusal::NoPlan),
-            rows: looked.rows,
+            ..looked
         };
     }
     let read = answer_rows(table, candidates, numbers, counts, space);
     best_plan::clear_space(space);
     Looked {
-        refusal: Ok(()),
         rows: looked.rows + read,
+        ..looked
     }
 }
 

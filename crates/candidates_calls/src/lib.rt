@@ -1,12 +1,13 @@
 // Calls that try candidates, each judged whole: the refusal's number, the rows looked at, every place of both lists of answers, every byte of the working space.
-// Product code has a part in each call: a table is of its own types, `refusals::number` gives the number of its refusal.
+// Product code has a part in each call: a table is of its own types, and `u8::from` gives the number of its refusal.
+// What is expected of a call is what it gives, or the papers' number of its refusal: the product's names have no part in it.
 #![tactic(auto)]
 
 ghost use Rattle.std.specs.Prelude.{◌≡◌, true, ◌↔◌};
 ghost use Rattle.candidates_calls.specs.Judged.{Reported, Right};
 
 use table::{Looked, Rows, Table};
-use trial_calls::{BEFORE, LENT_BYTES};
+use trial_calls::{BEFORE, LENT_BYTES, first};
 
 // How many places of each list of answers a call is lent, and how many bytes of the working space.
 #[derive(Clone, Copy)]
@@ -16,20 +17,57 @@ pub struct Lent {
     pub bytes: usize,
 }
 
-// A place in each list for so many candidates.
-pub fn for_each(candidates: usize) -> Lent {
-    Lent {
-        numbers: candidates,
-        counts: candidates,
-        bytes: LENT_BYTES,
+impl Lent {
+    // A place in each list for so many candidates.
+    pub fn for_each(candidates: usize) -> Lent {
+        Lent {
+            numbers: candidates,
+            counts: candidates,
+            bytes: LENT_BYTES,
+        }
     }
 }
 
-// What a call is to report: a refusal's number, 0 for accepted, and how many rows were looked at.
+// What a call is to report: accepted or a refusal's number, and how many rows were looked at.
 #[derive(Clone, Copy)]
 pub struct Report {
-    pub number: u8,
+    pub outcome: Result<(), u8>,
     pub rows: usize,
+}
+
+// What a candidate is to be answered: a count, or a refusal's number.
+pub type Answer = Result<u8, u8>;
+
+// What a call is to give: a report, and an answer to each candidate; none on a refusal.
+#[derive(Clone, Copy)]
+pub struct Given<'a> {
+    pub report: Report,
+    pub answers: &'a [Answer],
+}
+
+impl<'a> Given<'a> {
+    pub fn accepted(rows: usize, answers: &'a [Answer]) -> Given<'a> {
+        let outcome = Ok(());
+        Given {
+            report: Report { outcome, rows },
+            answers,
+        }
+    }
+
+    pub fn refused(number: u8, rows: usize) -> Given<'a> {
+        let outcome = Err(number);
+        Given {
+            report: Report { outcome, rows },
+            answers: &[],
+        }
+    }
+}
+
+// The two lists of answers as a call writes them: numbers, 0 for accepted, and counts, 0 on a refusal.
+#[derive(Clone, Copy)]
+struct Answers<'a> {
+    numbers: &'a [u8],
+    counts: &'a [u8],
 }
 
 // ---- what a call gave, judged
@@ -37,78 +75,51 @@ pub struct Report {
 fn is_reported(looked: Looked, report: Report) -> bool
     ensures { (result ≡ true) ↔ Reported looked report }
 {
-    refusals::number(looked.refusal) == report.number && looked.rows == report.rows
+    looked.refusal.map_err(u8::from) == report.outcome && looked.rows == report.rows
 }
 
 // Whether the report is right, the answers stand at the first places of their lists, and the other places and the working space are as the call is to leave them.
-fn is_right(
-    looked: Looked,
-    numbers: &[u8],
-    counts: &[u8],
-    space: &[u8],
-    report: Report,
-    first_numbers: &[u8],
-    first_counts: &[u8],
-) -> bool
-    ensures { (result ≡ true) ↔ Right looked numbers.now counts.now space.now report first_numbers.now first_counts.now }
+fn is_right(looked: Looked, lists: Answers, space: &[u8], report: Report, right: Answers) -> bool
+    ensures { (result ≡ true) ↔ Right looked lists.entry.numbers.now lists.entry.counts.now space.now report right.entry.numbers.now right.entry.counts.now }
 {
     is_reported(looked, report)
-        && trial_calls::is_written(numbers, first_numbers)
-        && trial_calls::is_written(counts, first_counts)
-        && trial_calls::is_left(space, report.number)
+        && trial_calls::is_written(lists.numbers, right.numbers)
+        && trial_calls::is_written(lists.counts, right.counts)
+        && trial_calls::is_left(space, report.outcome.err())
 }
 
 // ---- calls
 
-// What a call reports that is lent so much of the lists of answers and of the working space.
-fn call_lent(
-    table: Table,
-    candidates: Rows,
-    numbers: &mut [u8],
-    counts: &mut [u8],
-    space: &mut [u8],
-    lent: Lent,
-) -> Looked {
-    let a = lent.numbers.min(numbers.len());
-    let b = lent.counts.min(counts.len());
-    let c = lent.bytes.min(space.len());
-    candidates::try_each(
-        table,
-        candidates,
-        &mut numbers[..a],
-        &mut counts[..b],
-        &mut space[..c],
-    )
+fn number(answer: &Answer) -> u8 {
+    answer.err().unwrap_or(0)
 }
 
-// Whether a call gives the report and these answers; none on a refusal. Each list of answers has two places more than the most that a call is lent, so that a step
-// beyond the lent ones is seen.
-pub fn is_tried(
-    table: Table,
-    candidates: Rows,
-    lent: Lent,
-    report: Report,
-    numbers: &[u8],
-    counts: &[u8],
-) -> bool {
-    let mut given_numbers = [BEFORE; 67];
-    let mut given_counts = [BEFORE; 67];
+fn count(answer: &Answer) -> u8 {
+    answer.unwrap_or(0)
+}
+
+// Whether a call gives what it is to give. Each list of answers has a place more than the most that a call is lent, 66, so that a step beyond the lent ones is seen.
+pub fn is_tried(table: Table, candidates: Rows, lent: Lent, given: Given) -> bool {
+    let mut numbers = [BEFORE; 67];
+    let mut counts = [BEFORE; 67];
     let mut space = [BEFORE; LENT_BYTES];
-    let looked = call_lent(
+    let looked = candidates::try_each(
         table,
         candidates,
-        &mut given_numbers,
-        &mut given_counts,
-        &mut space,
-        lent,
+        &mut numbers[..lent.numbers.min(67)],
+        &mut counts[..lent.counts.min(67)],
+        &mut space[..lent.bytes.min(LENT_BYTES)],
     );
-    is_right(
-        looked,
-        &given_numbers,
-        &given_counts,
-        &space,
-        report,
-        numbers,
-        counts,
-    )
+    let lists = Answers {
+        numbers: &numbers,
+        counts: &counts,
+    };
+    let answers = given.answers;
+    let right_numbers: [u8; 64] = std::array::from_fn(|i| answers.get(i).map_or(0, number));
+    let right_counts: [u8; 64] = std::array::from_fn(|i| answers.get(i).map_or(0, count));
+    let right = Answers {
+        numbers: first(&right_numbers, answers.len()),
+        counts: first(&right_counts, answers.len()),
+    };
+    is_right(looked, lists, &space, given.report, right)
 }

@@ -1,86 +1,59 @@
 // What a call is to give, by request 7 of paper 02: refusals and rows looked at by code of the trial's own, plans by the brute force.
 use crate::drawn::{Drawn, Lists, Table};
-use crate::lists::put;
+use brute_force::days::are_hours;
 use brute_force::plans::Found;
-use brute_force::windows;
-use brute_force::windows::Day;
-use candidates_calls::Report;
-use window::Row;
+use brute_force::windows::{Day, Kind, Row, Window};
+use candidates_calls::{Answer, Report};
+use trial_calls::first;
 
-// What a candidate is answered: a refusal's number, 0 for accepted, and a count, 0 on a refusal.
-#[derive(Clone, Copy, Default, PartialEq, Eq)]
-pub struct Tried {
-    pub number: u8,
-    pub count: u8,
-}
-
-// What a call reports, and the answers to the candidates where it is accepted.
+// What a call reports, and what it answers the candidates; none on a refusal. The array has a place for each that there may be, since nothing is allocated.
 #[derive(Clone, Copy)]
 pub struct Expected {
     pub report: Report,
-    pub tried: [Tried; 8],
+    answered: usize,
+    list: [Answer; 8],
+}
+
+impl Expected {
+    pub fn answers(&self) -> &[Answer] {
+        first(&self.list, self.answered)
+    }
 }
 
 // ---- the brute force
 
 impl Table {
-    fn day(self) -> Day {
-        Day {
-            kind: if self.run {
-                windows::Kind::Run
-            } else {
-                windows::Kind::Round
-            },
-            ticks: self.ticks,
-            gap: self.gap,
-        }
-    }
-
-    // The table alone.
+    // The table alone, as `found` of `planner_trial` is of its own type.
     pub fn found_alone(self) -> Found {
-        found_in(self, self.rows)
+        brute_force::best_plan(self.day, self.rows.len, &self.rows.list, self.hours)
     }
 
     // The table with the row, as it is, added as its last.
     pub fn found_with(self, row: Row) -> Found {
-        let mut list = self.list;
-        put(&mut list, self.rows, row);
-        found_in(Table { list, ..self }, self.rows.wrapping_add(1))
+        let rows = self.rows.with_row(row);
+        Table { rows, ..self }.found_alone()
     }
-}
-
-fn row_of(row: Row) -> windows::Row {
-    windows::Row {
-        window: windows::Window {
-            start: row.start,
-            end: row.end,
-        },
-        mark: row.mark,
-    }
-}
-
-// The first of the rows, so many.
-fn found_in(t: Table, rows: usize) -> Found {
-    brute_force::best_plan(t.day(), rows, &t.list.map(row_of), t.hours)
 }
 
 // ---- rows
 
 // "In a round, start and end are both below R", and may be equal (request 3); "in a run, start is below end and end is at most R".
-fn is_window(t: Table, row: Row) -> bool {
-    if t.run {
-        row.start < row.end && row.end <= t.ticks
-    } else {
-        row.start < t.ticks && row.end < t.ticks
+fn is_window(day: Day, w: Window) -> bool {
+    match day.kind {
+        Kind::Round => w.start < day.ticks && w.end < day.ticks,
+        Kind::Run => w.start < w.end && w.end <= day.ticks,
     }
 }
 
-// 6, then 7, which "begins at mark 6"; 0 for a row that passes.
-fn row_number(t: Table, row: Row) -> u8 {
-    if !is_window(t, row) {
-        return 6;
+// 6, then 7, which "begins at mark 6"
+fn check_row(day: Day, row: Row) -> Result<(), u8> {
+    if !is_window(day, row.window) {
+        return Err(6);
     }
-    if 5 < row.mark { 7 } else { 0 }
+    if 5 < row.mark {
+        return Err(7);
+    }
+    Ok(())
 }
 
 // "marks 0, 2, 4 raised to 1, 3, 5"
@@ -100,141 +73,129 @@ pub fn must_row(row: Row) -> Row {
     }
 }
 
-// ---- refusals of the call, 0 for none
+// ---- refusals of the call
 
-fn are_equal(l: Lists) -> bool {
-    let n = l.candidate_starts;
-    l.candidate_ends == n && l.candidate_marks == n && l.numbers == n && l.counts == n
+fn are_equal(places: &[usize]) -> bool {
+    places.iter().all(|n| places.first() == Some(n))
 }
 
 // 1, 2, 3, 16
-pub fn lists_number(l: Lists) -> u8 {
-    if l.ends != l.starts || l.marks != l.starts {
-        return 1;
+pub fn check_lists(l: Lists) -> Result<(), u8> {
+    let [rows, ..] = l.table;
+    let [candidates, ..] = l.candidates;
+    if !are_equal(&l.table) {
+        return Err(1);
     }
-    if 64 < l.starts {
-        return 2;
+    if 64 < rows {
+        return Err(2);
     }
     if l.bytes < 4608 {
-        return 3;
+        return Err(3);
     }
-    if 64 < l.candidate_starts || !are_equal(l) {
-        16
-    } else {
-        0
+    if 64 < candidates || !are_equal(&l.candidates) {
+        return Err(16);
     }
-}
-
-fn are_hours(ticks: u16, [p, q]: [u16; 2]) -> bool {
-    p <= q && q <= ticks
+    Ok(())
 }
 
 // 4, 5 "(run only)", 14
-pub fn setting_number(t: Table) -> u8 {
-    let [first, second] = t.hours;
-    if t.ticks < 2 || 43200 < t.ticks {
-        return 4;
+pub fn check_setting(t: Table) -> Result<(), u8> {
+    let Day { kind, ticks, gap } = t.day;
+    if ticks < 2 || 43200 < ticks {
+        return Err(4);
     }
-    if t.run && (!are_hours(t.ticks, first) || !are_hours(t.ticks, second)) {
-        return 5;
+    if kind == Kind::Run && !are_hours(ticks, t.hours) {
+        return Err(5);
     }
-    if 600 < t.gap { 14 } else { 0 }
+    if 600 < gap {
+        return Err(14);
+    }
+    Ok(())
 }
 
-// The first of the rows that is refused: "If the table stops at row k it is k+1". Where none is, 0 and no rows.
-pub fn first_stop(t: Table) -> Report {
-    for i in 0..t.rows.min(8) {
-        let number = row_number(t, t.list[i]);
-        if number != 0 {
-            return Report {
-                number,
-                rows: i + 1,
-            };
+// The first of the rows that is refused: "If the table stops at row k it is k+1".
+pub fn first_stop(t: Table) -> Option<Report> {
+    for (i, row) in t.rows.all().iter().enumerate() {
+        let outcome = check_row(t.day, *row);
+        if outcome.is_err() {
+            return Some(Report {
+                outcome,
+                rows: i.wrapping_add(1),
+            });
         }
     }
-    Report { number: 0, rows: 0 }
-}
-
-// 8, from what the brute force finds of the table alone. The rows that make a table full may be heard, so that it has a plan where the rows that were drawn have one.
-fn plan_number(t: Table) -> u8 {
-    if t.found_alone().plan.is_none() { 8 } else { 0 }
+    None
 }
 
 // Beside a full table "the reported count is 64".
 fn rows_looked(d: Drawn) -> usize {
-    match d.lent.starts {
-        64 => 64,
-        rows => rows.wrapping_add(d.candidates),
+    match d.lent.table {
+        [64, ..] => 64,
+        [rows, ..] => rows.wrapping_add(d.candidates.len),
     }
 }
 
-// A table that passed the checks before its rows.
+// A table that passed the checks before its rows. 8 is by what the brute force finds of the table alone: the rows that make a table full may be heard, so that it has a plan
+// where the rows that were drawn have one.
 fn report_on_rows(d: Drawn) -> Report {
-    let stop = first_stop(d.table);
-    if stop.number != 0 {
+    if let Some(stop) = first_stop(d.table) {
         return stop;
     }
-    match plan_number(d.table) {
-        0 => Report {
-            number: 0,
-            rows: rows_looked(d),
-        },
-        number => Report {
-            number,
-            rows: d.lent.starts,
-        },
+    let [rows, ..] = d.lent.table;
+    if d.table.found_alone().plan.is_none() {
+        return Report {
+            outcome: Err(8),
+            rows,
+        };
     }
+    Report {
+        outcome: Ok(()),
+        rows: rows_looked(d),
+    }
+}
+
+fn check_call(d: Drawn) -> Result<(), u8> {
+    check_lists(d.lent)?;
+    check_setting(d.table)
 }
 
 fn report_on(d: Drawn) -> Report {
-    let number = match lists_number(d.lent) {
-        0 => setting_number(d.table),
-        number => number,
-    };
-    match number {
-        0 => report_on_rows(d),
-        _ => Report { number, rows: 0 },
+    let outcome = check_call(d);
+    if outcome.is_err() {
+        return Report { outcome, rows: 0 };
     }
+    report_on_rows(d)
 }
 
 // ---- candidates
 
 // What the brute force finds, as an answer.
-pub fn answer(found: Found) -> Tried {
-    match found.plan {
-        None => Tried {
-            number: 8,
-            count: 0,
-        },
-        Some(plan) => Tried {
-            number: 0,
-            count: plan.heard,
-        },
-    }
+pub fn answer(found: Found) -> Answer {
+    found.plan.map(|plan| plan.heard).ok_or(8)
 }
 
 // A candidate beside a table that has a plan.
-fn tried_beside(t: Table, full: bool, row: Row) -> Tried {
-    if full {
-        return Tried {
-            number: 2,
-            count: 0,
-        };
+fn answer_beside(d: Drawn, row: Row) -> Answer {
+    if d.lent.is_full() {
+        return Err(2);
     }
-    match row_number(t, row) {
-        0 => answer(t.found_with(must_row(row))),
-        number => Tried { number, count: 0 },
-    }
+    check_row(d.table.day, row)?;
+    answer(d.table.found_with(must_row(row)))
 }
 
-// A refused call answers no candidate.
 pub fn of_call(d: Drawn) -> Expected {
     let report = report_on(d);
-    let mut tried = [Tried::default(); 8];
-    if report.number == 0 {
-        for j in 0..d.candidates.min(8) {
-            tried[j] = tried_beside(d.table, d.lent.starts == 64, d.list[j]);
+    let answered = report.outcome.map_or(0, |()| d.candidates.len);
+    let list = std::array::from_fn(|j| {
+        if j < answered {
+            answer_beside(d, d.candidates.list[j])
+        } else {
+            Ok(0)
         }
+    });
+    Expected {
+        report,
+        answered,
+        list,
     }
-    Expected { report, tried }
 }

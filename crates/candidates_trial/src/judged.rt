@@ -1,95 +1,71 @@
 // Calls judged whole, with what they are to give worked out by hand.
-use candidates_calls::{Lent, Report, for_each, is_tried};
+use crate::row_lists::{FREE, RowLists};
+use candidates_calls::{Answer, Given, Lent, is_tried};
 use table::{Rows, Setting, Table};
+use trial_calls::first;
 use trial_report::Group;
-use window::Row;
+use window::{Kind, Row};
 
 // Both receivers are open all the time.
 pub fn open_run(ticks: u16, gap: u16) -> Setting {
-    trial_calls::run(ticks, gap, [[0, ticks], [0, ticks]])
+    trial_calls::open_all(Kind::Run, ticks, gap)
 }
 
-// The three lists of a table's rows or of candidates.
-pub fn rows_of<'a>(starts: &'a [u16], ends: &'a [u16], marks: &'a [u8]) -> Rows<'a> {
-    Rows {
-        starts,
-        ends,
-        marks,
-    }
-}
-
-// A call that is accepted answers with these numbers and counts: "the reported count of rows looked at is table rows plus candidates".
-pub fn tried(
-    group: Group,
-    setting: Setting,
-    rows: Rows,
-    candidates: Rows,
-    numbers: &[u8],
-    counts: &[u8],
-) -> Group {
+// Whether a call is accepted, and answers each candidate as stands beside it: "the reported count of rows looked at is table rows plus candidates".
+pub fn accepts(setting: Setting, rows: &[Row], candidates: &[(Row, Answer)]) -> bool {
+    let lists = RowLists::of(rows);
+    let tried = RowLists::new(std::array::from_fn(|i| {
+        candidates.get(i).map_or(FREE, |(row, _)| *row)
+    }));
+    let answers: [Answer; 64] = std::array::from_fn(|i| candidates
+        .get(i)
+        .map_or(Ok(0), |(_, answer)| *answer));
     let n = candidates.len();
-    let report = Report {
-        number: 0,
-        rows: rows.len().wrapping_add(n),
-    };
-    let right = is_tried(
-        Table { setting, rows },
-        candidates,
-        for_each(n),
-        report,
-        numbers,
-        counts,
-    );
-    group.with_case(right)
-}
-
-// A call that is refused by the number has looked at so many rows, and writes no answer.
-pub fn refused_in(
-    group: Group,
-    setting: Setting,
-    rows: Rows,
-    candidates: Rows,
-    lent: Lent,
-    number: u8,
-    looked: usize,
-) -> Group {
-    let report = Report {
-        number,
-        rows: looked,
-    };
-    let right = is_tried(Table { setting, rows }, candidates, lent, report, &[], &[]);
-    group.with_case(right)
-}
-
-// ---- one candidate
-
-pub fn tried_one(
-    group: Group,
-    setting: Setting,
-    rows: Rows,
-    candidate: Row,
-    number: u8,
-    count: u8,
-) -> Group {
-    tried(
-        group,
-        setting,
-        rows,
-        rows_of(&[candidate.start], &[candidate.end], &[candidate.mark]),
-        &[number],
-        &[count],
+    is_tried(
+        Table {
+            setting,
+            rows: lists.first(rows.len()),
+        },
+        tried.first(n),
+        Lent::for_each(n),
+        Given::accepted(rows.len().wrapping_add(n), first(&answers, n)),
     )
 }
 
-// The candidate is 0–1, which may be heard.
-pub fn refused(group: Group, setting: Setting, rows: Rows, number: u8, looked: usize) -> Group {
-    refused_in(
-        group,
-        setting,
-        rows,
-        rows_of(&[0], &[1], &[0]),
-        for_each(1),
+// Each candidate in a call of its own.
+pub fn with_each(
+    group: Group,
+    setting: Setting,
+    rows: &[Row],
+    candidates: &[(Row, Answer)],
+) -> Group {
+    candidates.iter().fold(group, |all, candidate| {
+        all.with_case(accepts(setting, rows, &[*candidate]))
+    })
+}
+
+// Whether a call is refused by the number, has looked at so many rows, and writes no answer.
+pub fn refuses_lent(table: Table, candidates: Rows, lent: Lent, number: u8, looked: usize) -> bool {
+    is_tried(table, candidates, lent, Given::refused(number, looked))
+}
+
+// The same with a free row as the candidate.
+pub fn refuses_table(table: Table, number: u8, looked: usize) -> bool {
+    let candidates = RowLists::of(&[FREE]);
+    refuses_lent(
+        table,
+        candidates.first(1),
+        Lent::for_each(1),
         number,
         looked,
     )
+}
+
+pub fn refuses(setting: Setting, rows: &[Row], number: u8, looked: usize) -> bool {
+    let lists = RowLists::of(rows);
+    let table = Table {
+        setting,
+        rows: lists.first(rows.len()),
+    };
+    refuses_table(table, number, looked)
 }

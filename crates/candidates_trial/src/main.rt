@@ -11,75 +11,74 @@ mod full;
 mod judged;
 mod lists;
 mod order;
+mod row_lists;
 mod tally;
 
 use compared::CALLS;
 use std::io;
 use tally::{Answers, Calls, Planned};
-use trial_report::{print, print_group, print_two};
+use trial_report::{Refusals, print, print_group, print_two};
 
 fn print_edges(rt: &impl Print) -> io::Result<()> {
-    print_group(rt, b"R and g", edges::ticks_and_gaps())?;
-    print_group(rt, b"hours", edges::hours())?;
-    print_group(rt, b"candidates in the open hours", edges::open_hours())?;
+    print_group(rt, "R and g", edges::ticks_and_gaps())?;
+    print_group(rt, "hours", edges::hours())?;
+    print_group(rt, "candidates in the open hours", edges::open_hours())?;
     print_group(
         rt,
-        b"windows of a candidate in a round",
+        "windows of a candidate in a round",
         edges::round_windows(),
     )?;
-    print_group(rt, b"windows of a candidate in a run", edges::run_windows())?;
-    print_group(rt, b"marks of a candidate", edges::marks())?;
-    print_group(rt, b"windows and marks of a row", edges::rows())?;
-    print_group(rt, b"tables without a plan", edges::no_plan())?;
-    print_group(rt, b"bytes of working space", edges::space())
+    print_group(rt, "windows of a candidate in a run", edges::run_windows())?;
+    print_group(rt, "marks of a candidate", edges::marks())?;
+    print_group(rt, "windows and marks of a row", edges::rows())?;
+    print_group(rt, "tables without a plan", edges::no_plan())?;
+    print_group(rt, "bytes of working space", edges::space())
 }
 
 fn print_lists(rt: &impl Print) -> io::Result<()> {
     print_group(
         rt,
-        b"candidate and answer lists equally long",
+        "candidate and answer lists equally long",
         lists::equally_long(),
     )?;
     print_group(
         rt,
-        b"candidate and answer lists of unequal lengths",
+        "candidate and answer lists of unequal lengths",
         lists::unequally_long(),
     )?;
     print_group(
         rt,
-        b"table lists of unequal lengths",
+        "table lists of unequal lengths",
         order::unequal_tables(),
     )?;
-    print_group(rt, b"63, 64 and 65 rows", full::all())
+    print_group(rt, "63, 64 and 65 rows", full::all())
+}
+
+fn print_refused(rt: &impl Print, refused: Refusals) -> io::Result<()> {
+    print(rt, "  refused by 1 ", refused.by(1))?;
+    for number in [2, 3, 16, 4, 5, 14, 6, 7, 8] {
+        println!(rt; "    by {number} {}", refused.by(number))?;
+    }
+    Ok(())
 }
 
 fn print_calls(rt: &impl Print, c: Calls) -> io::Result<()> {
-    let refused = c.refused;
-    print_two(rt, b"  accepted: rounds ", c.rounds, b", runs ", c.runs)?;
-    print(rt, b"    beside a full table ", c.full)?;
-    print(rt, b"    with 4,608 bytes of working space ", c.least)?;
-    print(rt, b"    with 16,383 ", c.less)?;
-    print(rt, b"  refused by 1 ", refused.lists)?;
-    print(rt, b"    by 2 ", refused.rows)?;
-    print(rt, b"    by 3 ", refused.space)?;
-    print(rt, b"    by 16 ", refused.candidates)?;
-    print(rt, b"    by 4 ", refused.ticks)?;
-    print(rt, b"    by 5 ", refused.hours)?;
-    print(rt, b"    by 14 ", refused.gap)?;
-    print(rt, b"    by 6 ", refused.window)?;
-    print(rt, b"    by 7 ", refused.mark)?;
-    print(rt, b"    by 8 ", refused.no_plan)?;
-    print(rt, b"    with a fault of a later check ", c.later)?;
+    print_two(rt, "  accepted: rounds ", c.rounds, ", runs ", c.runs)?;
+    print(rt, "    beside a full table ", c.full)?;
+    print(rt, "    with 4,608 bytes of working space ", c.least)?;
+    print(rt, "    with 16,383 ", c.less)?;
+    print_refused(rt, c.refused)?;
+    print(rt, "    with a fault of a later check ", c.later)?;
     print_two(
         rt,
-        b"    the table stops at row 0 ",
+        "    the table stops at row 0 ",
         c.first_row,
-        b", at a later row ",
+        ", at a later row ",
         c.later_row,
     )?;
     print(
         rt,
-        b"    a full table, at one of its rows or by 8 ",
+        "    a full table, at one of its rows or by 8 ",
         c.full_refused,
     )
 }
@@ -87,42 +86,42 @@ fn print_calls(rt: &impl Print, c: Calls) -> io::Result<()> {
 fn print_planned(rt: &impl Print, p: Planned) -> io::Result<()> {
     print_two(
         rt,
-        b"  marks raised ",
+        "  marks raised ",
         p.raised,
-        b", and the answer is another without ",
+        ", and the answer is another without ",
         p.raise_decides,
     )?;
     print_two(
         rt,
-        b"  beside a gap ",
+        "  beside a gap ",
         p.gap,
-        b", and the answer is another without ",
+        ", and the answer is another without ",
         p.gap_decides,
     )?;
     print_two(
         rt,
-        b"  sending all day: heard ",
+        "  sending all day: heard ",
         p.all_day,
-        b", not heard ",
+        ", not heard ",
         p.all_day_not,
     )?;
     print_two(
         rt,
-        b"  counts above the table's own ",
+        "  counts above the table's own ",
         p.above,
-        b", below it ",
+        ", below it ",
         p.less,
     )?;
-    print(rt, b"    the same ", p.same)
+    print(rt, "    the same ", p.same)
 }
 
 fn print_answers(rt: &impl Print, a: Answers) -> io::Result<()> {
-    print(rt, b"  candidates answered 0 ", a.heard)?;
-    print(rt, b"    2 ", a.full)?;
-    print(rt, b"    6 ", a.window)?;
-    print(rt, b"    7 ", a.mark)?;
-    print(rt, b"    8 ", a.no_plan)?;
-    print(rt, b"    otherwise than the candidate before ", a.other)?;
+    print(rt, "  candidates answered 0 ", a.heard)?;
+    print(rt, "    2 ", a.full)?;
+    print(rt, "    6 ", a.window)?;
+    print(rt, "    7 ", a.mark)?;
+    print(rt, "    8 ", a.no_plan)?;
+    print(rt, "    otherwise than the candidate before ", a.other)?;
     print_planned(rt, a.planned)
 }
 
@@ -130,18 +129,18 @@ fn print_random(rt: &impl Print) -> io::Result<()> {
     let tally = compared::all();
     print(
         rt,
-        b"random calls, up to 6 rows and 4 candidates, beside brute force: ",
+        "random calls, up to 6 rows and 4 candidates, beside brute force: ",
         CALLS,
     )?;
     print_calls(rt, tally.calls)?;
     print_answers(rt, tally.answers)?;
-    print(rt, b"  differ ", tally.differ)
+    print(rt, "  differ ", tally.differ)
 }
 
 fn main(rt: HostRuntime) -> io::Result<()> {
-    print_group(&rt, b"examples", examples::all())?;
+    print_group(&rt, "examples", examples::all())?;
     print_edges(&rt)?;
     print_lists(&rt)?;
-    print_group(&rt, b"order of refusals", order::all())?;
+    print_group(&rt, "order of refusals", order::all())?;
     print_random(&rt)
 }

@@ -1,26 +1,9 @@
 // How often the random calls met each case.
 use crate::drawn::{Drawn, Table};
-use crate::expected::{
-    Expected, Tried, answer, first_stop, lists_number, must_row, setting_number,
-};
-use candidates_calls::Report;
-use trial_report::more;
-use window::Row;
-
-// Refused calls by their number.
-#[derive(Clone, Copy, Default)]
-pub struct Refused {
-    pub lists: u32,
-    pub rows: u32,
-    pub space: u32,
-    pub candidates: u32,
-    pub ticks: u32,
-    pub hours: u32,
-    pub gap: u32,
-    pub window: u32,
-    pub mark: u32,
-    pub no_plan: u32,
-}
+use crate::expected::{Expected, answer, check_lists, check_setting, first_stop, must_row};
+use brute_force::windows::{Day, Kind, Row};
+use candidates_calls::{Answer, Report};
+use trial_report::{Refusals, more};
 
 #[derive(Clone, Copy, Default)]
 pub struct Calls {
@@ -31,7 +14,7 @@ pub struct Calls {
     // accepted, with no more working space than is needed, and with less than was needed before request 9
     pub least: u32,
     pub less: u32,
-    pub refused: Refused,
+    pub refused: Refusals,
     // a check of another kind, later in the order, would refuse it too
     pub later: u32,
     // the table stops at row 0, or at a later one
@@ -73,28 +56,11 @@ pub struct Planned {
 
 // ---- calls
 
-impl Refused {
-    fn with_number(self, number: u8) -> Refused {
-        Refused {
-            lists: more(self.lists, number == 1),
-            rows: more(self.rows, number == 2),
-            space: more(self.space, number == 3),
-            candidates: more(self.candidates, number == 16),
-            ticks: more(self.ticks, number == 4),
-            hours: more(self.hours, number == 5),
-            gap: more(self.gap, number == 14),
-            window: more(self.window, number == 6),
-            mark: more(self.mark, number == 7),
-            no_plan: more(self.no_plan, number == 8),
-        }
-    }
-}
-
 // Whether the lists are refused and the setting or a row would be, or the setting and a row.
 fn has_later(d: Drawn) -> bool {
-    let row = first_stop(d.table).number != 0;
-    let setting = setting_number(d.table) != 0;
-    if lists_number(d.lent) != 0 {
+    let row = first_stop(d.table).is_some();
+    let setting = check_setting(d.table).is_err();
+    if check_lists(d.lent).is_err() {
         setting || row
     } else {
         setting && row
@@ -104,54 +70,61 @@ fn has_later(d: Drawn) -> bool {
 impl Calls {
     // One call more.
     pub fn with_call(self, d: Drawn, report: Report) -> Calls {
-        let number = report.number;
-        let rows = report.rows;
-        let run = d.table.run;
-        let bytes = d.lent.bytes;
-        let stopped = matches!(number, 6 | 7);
-        let full = d.lent.starts == 64;
+        let Report { outcome, rows } = report;
+        let accepted = outcome.is_ok();
+        let stopped = matches!(outcome, Err(6 | 7));
+        let full = d.lent.is_full();
         Calls {
-            rounds: more(self.rounds, number == 0 && !run),
-            runs: more(self.runs, number == 0 && run),
-            full: more(self.full, number == 0 && full),
-            least: more(self.least, number == 0 && bytes == 4608),
-            less: more(self.less, number == 0 && bytes == 16383),
-            refused: self.refused.with_number(number),
+            rounds: more(self.rounds, accepted && d.table.day.kind == Kind::Round),
+            runs: more(self.runs, accepted && d.table.day.kind == Kind::Run),
+            full: more(self.full, accepted && full),
+            least: more(self.least, accepted && d.lent.bytes == 4608),
+            less: more(self.less, accepted && d.lent.bytes == 16383),
+            refused: self.refused.with_call(outcome.err()),
             later: more(self.later, has_later(d)),
             first_row: more(self.first_row, stopped && rows == 1),
             later_row: more(self.later_row, stopped && 1 < rows),
-            full_refused: more(self.full_refused, number != 0 && full && 0 < rows),
+            full_refused: more(self.full_refused, !accepted && full && 0 < rows),
         }
     }
 }
 
 // ---- candidates
 
+impl Table {
+    // `with_gap(0)` of `planner_trial` is of its own type.
+    fn without_gap(self) -> Table {
+        let day = Day { gap: 0, ..self.day };
+        Table { day, ..self }
+    }
+}
+
 impl Planned {
     // One candidate more that was planned, beside a table whose own plan hears so many.
-    fn with_planned(self, t: Table, row: Row, tried: Tried, alone: u8) -> Planned {
-        let count = tried.count;
-        let heard = tried.number == 0;
-        let all_day = row.start == row.end;
+    fn with_planned(self, t: Table, row: Row, given: Answer, alone: u8) -> Planned {
+        let all_day = row.window.start == row.window.end;
         let unraised = answer(t.found_with(row));
-        let gapless = answer(Table { gap: 0, ..t }.found_with(must_row(row)));
+        let gapless = answer(t.without_gap().found_with(must_row(row)));
         Planned {
             raised: more(self.raised, matches!(row.mark, 0 | 2 | 4)),
-            raise_decides: more(self.raise_decides, unraised != tried),
-            all_day: more(self.all_day, all_day && heard),
-            all_day_not: more(self.all_day_not, all_day && !heard),
-            gap: more(self.gap, t.gap != 0),
-            gap_decides: more(self.gap_decides, gapless != tried),
-            above: more(self.above, heard && alone < count),
-            same: more(self.same, heard && count == alone),
-            less: more(self.less, heard && count < alone),
+            raise_decides: more(self.raise_decides, unraised != given),
+            all_day: more(self.all_day, all_day && given.is_ok()),
+            all_day_not: more(self.all_day_not, all_day && given.is_err()),
+            gap: more(self.gap, t.day.gap != 0),
+            gap_decides: more(self.gap_decides, gapless != given),
+            above: more(self.above, given.is_ok_and(|count| alone < count)),
+            same: more(self.same, given == Ok(alone)),
+            less: more(self.less, given.is_ok_and(|count| count < alone)),
         }
     }
 
-    // One candidate more; only what has the number 0 or 8 was planned.
-    fn with_candidate(self, t: Table, row: Row, tried: Tried) -> Planned {
-        match tried.number {
-            0 | 8 => self.with_planned(t, row, tried, answer(t.found_alone()).count),
+    // One candidate more; only what is accepted or refused by 8 was planned.
+    fn with_candidate(self, t: Table, row: Row, given: Answer) -> Planned {
+        match given {
+            Ok(_) | Err(8) => {
+                let alone = answer(t.found_alone()).unwrap_or(0);
+                self.with_planned(t, row, given, alone)
+            }
             _ => self,
         }
     }
@@ -159,27 +132,25 @@ impl Planned {
 
 impl Answers {
     // One candidate more; `other` if the candidate before has another answer.
-    fn with_candidate(self, t: Table, row: Row, tried: Tried, other: bool) -> Answers {
-        let number = tried.number;
+    fn with_candidate(self, t: Table, row: Row, given: Answer, other: bool) -> Answers {
         Answers {
-            heard: more(self.heard, number == 0),
-            full: more(self.full, number == 2),
-            window: more(self.window, number == 6),
-            mark: more(self.mark, number == 7),
-            no_plan: more(self.no_plan, number == 8),
+            heard: more(self.heard, given.is_ok()),
+            full: more(self.full, given == Err(2)),
+            window: more(self.window, given == Err(6)),
+            mark: more(self.mark, given == Err(7)),
+            no_plan: more(self.no_plan, given == Err(8)),
             other: more(self.other, other),
-            planned: self.planned.with_candidate(t, row, tried),
+            planned: self.planned.with_candidate(t, row, given),
         }
     }
 
-    // The candidates of one call more, which was accepted.
+    // The candidates of one call more; of a refused call none is answered.
     pub fn with_call(self, d: Drawn, e: Expected) -> Answers {
         let mut all = self;
-        let mut former = e.tried[0];
-        for j in 0..d.candidates.min(8) {
-            let tried = e.tried[j];
-            all = all.with_candidate(d.table, d.list[j], tried, tried != former);
-            former = tried;
+        let mut former = e.answers().first().copied();
+        for (row, given) in d.candidates.all().iter().zip(e.answers()) {
+            all = all.with_candidate(d.table, *row, *given, former != Some(*given));
+            former = Some(*given);
         }
         all
     }

@@ -8,6 +8,7 @@ mod gap;
 mod kept;
 mod order;
 mod six_marks;
+mod tables;
 mod tape_edges;
 mod tapes;
 mod wrong;
@@ -16,13 +17,13 @@ use std::io;
 use trial_report::print_group;
 
 fn main(rt: HostRuntime) -> io::Result<()> {
-    print_group(&rt, b"P1 to P12", bench::all())?;
-    print_group(&rt, b"edges", edges::all())?;
-    print_group(&rt, b"order of refusals", order::all())?;
-    print_group(&rt, b"plan tapes", tapes::all())?;
-    print_group(&rt, b"marks 0 to 5", six_marks::all())?;
-    print_group(&rt, b"beacons that send all day", all_day::all())?;
-    print_group(&rt, b"gaps between windows", gap::all())?;
-    print_group(&rt, b"plausible and wrong", wrong::all())?;
-    print_group(&rt, b"labels and working space after a call", kept::all())
+    print_group(&rt, "P1 to P12", bench::all())?;
+    print_group(&rt, "edges", edges::all())?;
+    print_group(&rt, "order of refusals", order::all())?;
+    print_group(&rt, "plan tapes", tapes::all())?;
+    print_group(&rt, "marks 0 to 5", six_marks::all())?;
+    print_group(&rt, "beacons that send all day", all_day::all())?;
+    print_group(&rt, "gaps between windows", gap::all())?;
+    print_group(&rt, "plausible and wrong", wrong::all())?;
+    print_group(&rt, "labels and working space after a call", kept::all())
 }

@@ -1,5 +1,5 @@
 // One distance compared, and what was met.
-ghost use Rattle.std.specs.Prelude.{◌≡◌, ◌==◌};
+ghost use Rattle.std.specs.Prelude.{◌≡◌, true, ◌↔◌, Some};
 ghost use Rattle.window.specs.Ticks.{Ticks, distance};
 
 use trial_report::{Group, more};
@@ -14,17 +14,17 @@ pub struct Tally {
     pub beyond: u32,
 }
 
-// Whether the product gives the expected distance.
-fn is_right(ticks: u16, start: u16, tick: u16, expected: u16) -> bool
+// Whether the product gives the expected distance, which there must be. R, start and tick come one by one: a struct of them would be taken apart for `window::distance`.
+fn is_right(ticks: u16, start: u16, tick: u16, expected: Option<u16>) -> bool
     requires { Ticks ticks start tick }
-    ensures { result ≡ (distance ticks start tick == expected) }
+    ensures { (result ≡ true) ↔ (expected ≡ Some (distance ticks start tick)) }
 {
-    window::distance(ticks, start, tick) == expected
+    expected == Some(window::distance(ticks, start, tick))
 }
 
 impl Tally {
     // One distance more.
-    pub fn with_distance(self, ticks: u16, start: u16, tick: u16, expected: u16) -> Tally
+    pub fn with_distance(self, ticks: u16, start: u16, tick: u16, expected: Option<u16>) -> Tally
         requires { Ticks ticks start tick }
     {
         let right = is_right(ticks, start, tick, expected);

@@ -1,22 +1,17 @@
-// How far a tick lies after a start, without the product's code: by steps, and by the remainder.
+// How far a tick lies after a start, without the product's code: by steps, and by the remainder. R, start and tick are three numbers, as `window::distance` takes them.
 ghost use Rattle.window.specs.Ticks.{Ticks};
 
-// The tick after `tick`, "going from R-1 to 0".
-fn after(ticks: u16, tick: u16) -> u16 {
-    let next = tick.wrapping_add(1);
-    if next == ticks { 0 } else { next }
-}
+use brute_force::clashes::between;
+use brute_force::windows::{Day, Kind};
 
-// The steps from `start` on to `tick`, counted; if it is not met on the way, as many as there are ticks, which is no distance.
-pub fn steps(ticks: u16, start: u16, tick: u16) -> u16 {
-    let mut at = start;
-    for steps in 0..ticks {
-        if at == tick {
-            return steps;
-        }
-        at = after(ticks, at);
-    }
-    ticks
+// The steps from `start` on to `tick`, counted by the brute force, if it is met on the way.
+pub fn steps(ticks: u16, start: u16, tick: u16) -> Option<u16> {
+    let day = Day {
+        kind: Kind::Round,
+        ticks,
+        gap: 0,
+    };
+    between(day, start, tick)
 }
 
 // "the tick plus R less the start, modulo R", in 32 bits.

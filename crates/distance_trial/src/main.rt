@@ -44,7 +44,8 @@ fn with_six(before: Tally, ticks: u16) -> Tally
     let six = six(ticks);
     for start in six {
         for tick in six {
-            tally = tally.with_distance(ticks, start, tick, counted::remainder(ticks, start, tick));
+            let remainder = counted::remainder(ticks, start, tick);
+            tally = tally.with_distance(ticks, start, tick, Some(remainder));
         }
     }
     tally
@@ -62,23 +63,23 @@ fn of_rounds<F: Fn(Tally, u16) -> Tally>(longest: u16, with_round: F) -> Tally
 }
 
 fn print_tally(rt: &impl Print, tally: Tally) -> io::Result<()> {
-    print_group(rt, b"  distances", tally.distances)?;
-    print(rt, b"  the tick at the start ", tally.at)?;
-    print(rt, b"  after it ", tally.after)?;
-    print(rt, b"  before it ", tally.before)?;
-    print(rt, b"  the tick plus R beyond 16 bits ", tally.beyond)
+    print_group(rt, "  distances", tally.distances)?;
+    print(rt, "  the tick at the start ", tally.at)?;
+    print(rt, "  after it ", tally.after)?;
+    print(rt, "  before it ", tally.before)?;
+    print(rt, "  the tick plus R beyond 16 bits ", tally.beyond)
 }
 
 fn main(rt: HostRuntime) -> io::Result<()> {
     print(
         &rt,
-        b"every two ticks, by steps, of each R from 2 to ",
+        "every two ticks, by steps, of each R from 2 to ",
         u32::from(SHORT),
     )?;
     print_tally(&rt, of_rounds(SHORT, with_every))?;
     print(
         &rt,
-        b"two of the first, middle and last ticks, by the remainder, of each R from 2 to ",
+        "two of the first, middle and last ticks, by the remainder, of each R from 2 to ",
         u32::from(LONGEST),
     )?;
     print_tally(&rt, of_rounds(LONGEST, with_six))

@@ -10,7 +10,7 @@ use borrow.Author.Tests.{le-leb, lt-leb, leb-true, eq-eqb}
 use lib.Dec.{leb}
 use lib.ListN.{length, take, drop, length-map}
 use lib.Seq.{take_at}
-use Rattle.basics.proofs.Tests.{le_or_lt}
+use Rattle.std.proofs.lemmas.Bool.{cases_lt}
 use Rattle.basics.specs.Limits.{max_rows, Places, has_places}
 use Rattle.fleet_tape.specs.Demand.{IsFleetTape, rows_given, Stated, Demand2}
 use Rattle.window.specs.declared.Kind.{Kind}
@@ -147,9 +147,9 @@ module _ (tape : List ℕ) {starts ends marks : List ℕ} (b : Bytes tape) (p : 
       go (some f) r q =
           let t : IsFleetTape tape (length f.rows) = record { kind = f.kind; ticks = f.ticks; hours = f.hours; rows = f.rows; fits = r.fit; each = refl; tape_is = r.bytes } in
           ⊎_elim
-          (λ h. let z = differ e (few_accepted (length f.rows) h t) in absurd (omega arith))
           (λ h. (length f.rows, h, t))
-          (le_or_lt (length f.rows) max_rows)
+          (λ h. let z = differ e (few_accepted (length f.rows) h t) in absurd (omega arith))
+          (cases_lt max_rows (length f.rows))
 
   pub demand_2 : Demand2 tape (fleet_read tape starts ends marks)
   demand_2 =
@@ -163,9 +163,13 @@ module _ (tape : List ℕ) {starts ends marks : List ℕ} (b : Bytes tape) (p : 
       no_tape : out.report.refusal ≡ Form → (n : ℕ) → IsFleetTape tape n → ⊥
       no_tape e n t =
           ⊎_elim
-          (λ h. let z = differ e (few_accepted n h t) in omega arith)
           (λ h. let z = differ e (many_refused n h t) in omega arith)
-          (le_or_lt n max_rows)
+          (λ h. let z = differ e (few_accepted n h t) in omega arith)
+          (cases_lt max_rows n)
+
+-- what the reader gives, said otherwise
+pub demanded : {tape starts ends marks : List ℕ} {r : Reading} → Bytes tape → fleet_read tape starts ends marks ≡ r → Places starts ends marks → Demand2 tape r
+demanded {tape} b e p = rw e at (demand_2 tape b p)
 
 -- ---- whatever meets demand 2 answers as the reader does, and reports what the tape states
 
@@ -188,9 +192,9 @@ only_demanded tape {starts} {ends} {marks} b p out d = (go (fleet_of tape) (flee
     go (some f) r q =
         let t : IsFleetTape tape (length f.rows) = record { kind = f.kind; ticks = f.ticks; hours = f.hours; rows = f.rows; fits = r.fit; each = refl; tape_is = r.bytes } in
         ⊎_elim
-        (λ h. d.takes.1 (length f.rows, h, t) ∙ sym (few_accepted tape b p (length f.rows) h t))
         (λ h. d.many.1 (length f.rows, h, t) ∙ sym (many_refused tape b p (length f.rows) h t))
-        (le_or_lt (length f.rows) max_rows)
+        (λ h. d.takes.1 (length f.rows, h, t) ∙ sym (few_accepted tape b p (length f.rows) h t))
+        (cases_lt max_rows (length f.rows))
 
     stated : out.report.refusal ≡ Accepted
         → (fleet_of tape ≡ some (fleet out.report.kind out.report.ticks (hours_in out.report.kind out.report.hours) (rows_given out)))

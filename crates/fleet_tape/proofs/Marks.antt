@@ -6,7 +6,8 @@ use mathlib.Core.Logic.{◌↔◌}
 use mathlib.Core.Bool.{true}
 use native.Mathlib.Omega.{arith}
 use Rattle.basics.specs.Tests.{every}
-use Rattle.basics.proofs.Tests.{every_iff, and_iff, imp_iff, leb_iff, eqb_iff}
+use Rattle.std.proofs.lemmas.Bool.Decides.{Decides-eqb}
+use Rattle.basics.proofs.Tests.{every_iff, and_iff, imp_iff, leb_iff}
 use Rattle.tape.specs.Commands.{WINDOW, MUST2, operand_bytes}
 use Rattle.fleet_tape.specs.Fleet.{row_command}
 use Rattle.fleet_tape.specs.Form.{is_row, mark_of}
@@ -29,11 +30,11 @@ marked x e =
     known : (c : ℕ) → c < suc MUST2 → is_row c ≡ true → (operand_bytes c ≡ 4) × ((c ≡ row_command (mark_of c)) × (mark_of c ≤ 5))
     known =
         (every_iff (suc MUST2)
-        (λ c h. imp_iff (λ e. e, λ e. e) (and_iff (eqb_iff (operand_bytes c) 4) (and_iff (eqb_iff c (row_command (mark_of c))) (leb_iff (mark_of c) 5))))
+        (λ c h. imp_iff (λ e. e, λ e. e) (and_iff (Decides-eqb (operand_bytes c) 4) (and_iff (Decides-eqb c (row_command (mark_of c))) (leb_iff (mark_of c) 5))))
         ).0
         refl
 
 -- the command of a mark is a row's, and gives the mark back
 pub mark_back : (m : ℕ) → m < 6 → (is_row (row_command m) ≡ true) × (mark_of (row_command m) ≡ m)
 unfolding every
-mark_back = (every_iff 6 (λ m h. and_iff (λ e. e, λ e. e) (eqb_iff (mark_of (row_command m)) m))).0 refl
+mark_back = (every_iff 6 (λ m h. and_iff (λ e. e, λ e. e) (Decides-eqb (mark_of (row_command m)) m))).0 refl

@@ -7,7 +7,8 @@ use mathlib.Core.Option.{Option, none, some}
 use native.Mathlib.Omega.{arith}
 use lib.Dec.{eqb}
 use lib.ListN.{get_or, drop}
-use Rattle.basics.proofs.Tests.{and_iff, eqb_iff}
+use Rattle.std.proofs.lemmas.Bool.Decides.{Decides-eqb}
+use Rattle.basics.proofs.Tests.{and_iff}
 use Rattle.window.specs.declared.Kind.{Kind}
 use Rattle.window.specs.declared.Kind.TheVariants.{Round, Run}
 use Rattle.tape.specs.Commands.{ROUND, RUN, HOURS, STOP, operand_bytes, begins}
@@ -80,7 +81,7 @@ module _ (x a b c d : ℕ) (rest : List ℕ) (h : Bytes (x ∷ a ∷ b ∷ c ∷
 
 last_byte : (x : ℕ) (t : Bool) → eqb x STOP ≡ t → RowsKnown (x ∷ []) (cond t (some []) none)
 unfolding rows_tape
-last_byte x true e = record { bytes = ap (λ (b : ℕ). b ∷ []) ((eqb_iff x STOP).0 e); fit = tt }
+last_byte x true e = record { bytes = ap (λ (b : ℕ). b ∷ []) ((Decides-eqb x STOP).0 e); fit = tt }
 last_byte x false e = tt
 
 rows_known : (s : List ℕ) → Bytes s → RowsKnown s (rows_in s)

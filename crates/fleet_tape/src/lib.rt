@@ -1,7 +1,7 @@
 // The reader of fleet tapes: the form is judged to the end of the tape, and then the lists are filled.
 #![tactic(auto)]
 
-ghost use Rattle.std.specs.Prelude.{◌≡◌, ◌+◌, true, drop, map, MatchOption};
+ghost use Rattle.std.specs.Prelude.{◌≡◌, true, map, MatchOption};
 ghost use Rattle.std.proofs.Math.Option.{none};
 ghost use Rattle.tape.specs.Words.{Inside};
 ghost use Rattle.window.specs.Rows.{starts_of, ends_of, marks_of};
@@ -14,11 +14,11 @@ ghost use Rattle.basics.specs.Lists.{front};
 
 use basics::MAX_ROWS;
 use refusals::Refusal;
-use tape::{HOURS, MUST2, ROUND, RUN, WINDOW, begins, is_stop_at, past, word_at};
+use tape::{HOURS, MUST2, OPERAND_BYTES, ROUND, RUN, WINDOW, after, is_stop, word_at};
 use window::Kind;
 
-// The bytes of a row: a command and two words.
-const ROW_BYTES: usize = 5;
+// The bytes of a row: a command, and its operands as the table of widths has them. Rows of every mark are laid out as WINDOW.
+const ROW_BYTES: usize = 1 + OPERAND_BYTES[WINDOW as usize] as usize;
 
 // What a call reports: "kind, R, hours (all 0 in a round) and rows".
 #[derive(Clone, Copy, Debug, PartialEq, Eq)]
@@ -29,7 +29,7 @@ pub struct Report {
     pub rows: usize,
 }
 
-// The head of a tape, and the bytes after it.
+// The head of a tape, and the bytes after it. It holds no `Report`, which has the same three: how many rows there are is known only once the rest is read.
 #[derive(Clone, Copy)]
 struct Head<'a> {
     kind: Kind,
@@ -38,14 +38,14 @@ struct Head<'a> {
     rest: &'a [u8],
 }
 
-// The operands of HOURS at a place.
-fn hours_at(tape: &[u8], at: usize) -> [[u16; 2]; 2]
-    requires { Inside tape.now (at + 8) }
-    ensures { result ≡ hours_of (drop at tape.now) }
+// The operands of HOURS, which stands first.
+fn hours_of(tape: &[u8]) -> [[u16; 2]; 2]
+    requires { Inside tape.now 8 }
+    ensures { result ≡ hours_of tape.now }
 {
     [
-        [word_at(tape, at + 1), word_at(tape, at + 3)],
-        [word_at(tape, at + 5), word_at(tape, at + 7)],
+        [word_at(tape, 1), word_at(tape, 3)],
+        [word_at(tape, 5), word_at(tape, 7)],
     ]
 }
 
@@ -54,34 +54,29 @@ fn hours_at(tape: &[u8], at: usize) -> [[u16; 2]; 2]
 fn head_of(tape: &[u8]) -> Option<Head<'_>>
     ensures { MatchOption result (fleet_of tape.now ≡ none) (λ h. fleet_of tape.now ≡ stated h.kind h.ticks h.hours (rows_in h.rest.now)) }
 {
-    if begins(tape, 0, ROUND) {
+    if let Some(rest) = after(tape, ROUND) {
         return Some(Head {
             kind: Kind::Round,
             ticks: word_at(tape, 1),
             hours: [[0, 0], [0, 0]],
-            rest: &tape[past(tape, 0, ROUND)..],
+            rest,
         });
     }
-    if !begins(tape, 0, RUN) {
-        return None;
-    }
-    let hours = past(tape, 0, RUN);
-    if !begins(tape, hours, HOURS) {
-        return None;
-    }
+    let hours = after(tape, RUN)?;
+    let rest = after(hours, HOURS)?;
     Some(Head {
         kind: Kind::Run,
         ticks: word_at(tape, 1),
-        hours: hours_at(tape, hours),
-        rest: &tape[past(tape, hours, HOURS)..],
+        hours: hours_of(hours),
+        rest,
     })
 }
 
-// Whether a byte is a row's command: 40 to 45.
+// Whether a byte is a row's command: 40 to 45, hexadecimal.
 fn is_row(command: u8) -> bool
     ensures { result ≡ is_row command }
 {
-    WINDOW <= command && command <= MUST2
+    matches!(command, WINDOW..=MUST2)
 }
 
 // The mark that a row's command gives: the commands stand in the order of the marks.
@@ -105,7 +100,7 @@ fn rows_in(bytes: &[u8]) -> Option<&[[u8; ROW_BYTES]]>
     ensures { MatchOption result (rows_in bytes.now ≡ none) (λ rows. RowsOf bytes.now rows.now) }
 {
     let (rows, last) = bytes.as_chunks::<ROW_BYTES>();
-    if is_stop_at(last, 0) && all_rows(rows) {
+    if is_stop(last) && all_rows(rows) {
         return Some(rows);
     }
     None
@@ -126,15 +121,17 @@ fn fill_rows(rows: &[[u8; ROW_BYTES]], starts: &mut [u16], ends: &mut [u16], mar
     }
 }
 
-// Reads a fleet tape: the head, and then the rows.
+// THE READER of fleet tapes, into lists of 64 places. "It judges the form alone; the planner judges the values." What a call gives, report and lists, is what the
+// definition `fleet_read` yields, on every input. So, spelled out over paper 01's form: it is as demand 2 asks.
 #[tactic(auto, using(crate::proofs::Judged::answers))]
-fn read_tape(
+pub fn read_fleet(
     tape: &[u8],
     starts: &mut [u16],
     ends: &mut [u16],
     marks: &mut [u8],
 ) -> Result<Report, Refusal>
-    ensures { reading (report_of result) starts.new ends.new marks.new ≡ fleet_read tape.now starts.old ends.old marks.old }
+    ensures read { reading (report_of result) starts.new ends.new marks.new ≡ fleet_read tape.now starts.old ends.old marks.old }
+    ensures demand2 { Places starts.old ends.old marks.old → Demand2 tape.now (reading (report_of result) starts.new ends.new marks.new) }
 {
     if !basics::has_places(starts.len(), ends.len(), marks.len()) {
         return Err(Refusal::Lists);
@@ -151,18 +148,4 @@ fn read_tape(
         hours: head.hours,
         rows: rows.len(),
     })
-}
-
-// THE READER of fleet tapes, into lists of 64 places. "It judges the form alone; the planner judges the values." What a call gives, report and lists, is what the
-// definition `fleet_read` yields, on every input. So, spelled out over paper 01's form: it is as demand 2 asks.
-pub fn read_fleet(
-    tape: &[u8],
-    starts: &mut [u16],
-    ends: &mut [u16],
-    marks: &mut [u8],
-) -> Result<Report, Refusal>
-    ensures read { reading (report_of result) starts.new ends.new marks.new ≡ fleet_read tape.now starts.old ends.old marks.old }
-    ensures demand2 { Places starts.old ends.old marks.old → Demand2 tape.now (reading (report_of result) starts.new ends.new marks.new) }
-{
-    read_tape(tape, starts, ends, marks)
 }

@@ -1,111 +1,78 @@
 // A decoder of fleet tapes for those whose bytes were changed: what they state is not known from how they were made.
-// It is written from papers 01 and 02 alone and shares nothing with the reader: it takes the number of rows from the tape's length, and a row's
-// command as two hexadecimal digits.
+// It is written from papers 01 and 02 alone and shares nothing with the reader, so that it is a second opinion: it takes a head as a list of bytes, the number of rows from
+// the tape's length, where the reader splits rows off, and a row's command as two hexadecimal digits.
 use crate::made::Stated;
 use fleet_tape::Report;
-use window::Kind;
-
-const ROUND: u8 = 0x10;
-
-const RUN: u8 = 0x11;
-
-const HOURS: u8 = 0x50;
-
-const STOP: u8 = 0x7F;
-
-// ---- bytes
-
-// The byte at a place; 0, which is no command, past the end.
-fn byte_at(tape: &[u8], at: usize) -> u8 {
-    if at < tape.len() { tape[at] } else { 0 }
-}
-
-// The 16-bit operand that lies so many bytes after a place, high byte first.
-fn operand(tape: &[u8], at: usize, bytes: usize) -> u16 {
-    let high = at.wrapping_add(bytes);
-    let low = high.wrapping_add(1);
-    u16::from_be_bytes([byte_at(tape, high), byte_at(tape, low)])
-}
+use plan_tape_made::made::NO_ROW;
+use std::array::from_fn;
+use window::{Kind, Row};
 
 // ---- the form
 
-// What stands before the rows, and in how many bytes: 3 in a round, 12 in a run.
-fn head_of(tape: &[u8]) -> Option<(Kind, usize)> {
-    match byte_at(tape, 0) {
-        ROUND => Some((Kind::Round, 3)),
-        RUN if byte_at(tape, 3) == HOURS => Some((Kind::Run, 12)),
+// The operands of HOURS.
+fn hours_of(bytes: &[u8; 8]) -> [[u16; 2]; 2] {
+    let [a1, a2, b1, b2, c1, c2, d1, d2] = *bytes;
+    let word = |high, low| u16::from_be_bytes([high, low]);
+    [[word(a1, a2), word(b1, b2)], [word(c1, c2), word(d1, d2)]]
+}
+
+// What stands before the rows, of which the number is not known yet, and what comes after it.
+fn head_of(tape: &[u8]) -> Option<(Report, &[u8])> {
+    let (kind, r1, r2, hours, rest) = match tape {
+        [0x10, r1, r2, rest @ ..] => (Kind::Round, r1, r2, [[0, 0], [0, 0]], rest),
+        [0x11, r1, r2, 0x50, after @ ..] => {
+            let (hours, rest) = after.split_first_chunk::<8>()?;
+            (Kind::Run, r1, r2, hours_of(hours), rest)
+        }
+        _ => return None,
+    };
+    let head = Report {
+        kind,
+        ticks: u16::from_be_bytes([*r1, *r2]),
+        hours,
+        rows: 0,
+    };
+    Some((head, rest))
+}
+
+// How many rows of five bytes stand before STOP, which is the last byte, by the length alone.
+fn rows_before_stop(rest: &[u8]) -> Option<usize> {
+    match rest {
+        [.., 0x7F] if rest.len() % 5 == 1 => Some(rest.len() / 5),
         _ => None,
     }
 }
 
-// How many rows of five bytes stand between the head and STOP, if nothing else does.
-fn rows_after(tape: &[u8], head: usize) -> Option<usize> {
-    let bytes = tape.len().checked_sub(head)?;
-    if bytes % 5 != 1 || byte_at(tape, tape.len() - 1) != STOP {
+// A row by its place: the digit 4 and then the mark, 0 to 5, start and end.
+fn row_at(rest: &[u8], row: usize) -> Option<Row> {
+    let at = row.wrapping_mul(5);
+    let byte = |n: usize| rest.get(at.wrapping_add(n)).copied();
+    let command = byte(0)?;
+    if command / 16 != 4 || 5 < command % 16 {
         return None;
     }
-    Some(bytes / 5)
+    Some(Row {
+        start: u16::from_be_bytes([byte(1)?, byte(2)?]),
+        end: u16::from_be_bytes([byte(3)?, byte(4)?]),
+        mark: command % 16,
+    })
 }
 
-// The place of a row's command.
-fn place_of(head: usize, row: usize) -> usize {
-    head.wrapping_add(row.wrapping_mul(5))
-}
-
-// The digit 4, and then the mark, 0 to 5.
-fn is_row(command: u8) -> bool {
-    command / 16 == 4 && command % 16 < 6
-}
-
-// Whether each row begins with a command of 40 to 45.
-fn has_rows(tape: &[u8], head: usize, rows: usize) -> bool {
-    (0..rows).all(|row| is_row(byte_at(tape, place_of(head, row))))
-}
-
-// ---- what it states
-
-// Hours are all 0 in a round.
-fn hours_stated(tape: &[u8], kind: Kind) -> [[u16; 2]; 2] {
-    match kind {
-        Kind::Round => [[0, 0], [0, 0]],
-        Kind::Run => [
-            [operand(tape, 3, 1), operand(tape, 3, 3)],
-            [operand(tape, 3, 5), operand(tape, 3, 7)],
-        ],
-    }
-}
-
-// The second digit of a row's command.
-fn mark_stated(command: u8) -> u8 {
-    command % 16
-}
-
-// What a tape states; nothing if it is not of the form. As many of the rows are taken as the lists have places for.
+// What a tape states; nothing if it is not of the form. As many of the rows are taken as the list has places for.
 pub fn decode(tape: &[u8]) -> Option<Stated> {
-    let (kind, head) = head_of(tape)?;
-    let rows = rows_after(tape, head)?;
-    if !has_rows(tape, head, rows) {
+    let (head, rest) = head_of(tape)?;
+    let rows = rows_before_stop(rest)?;
+    if !(0..rows).all(|row| row_at(rest, row).is_some()) {
         return None;
     }
-    let mut starts = [0; 65];
-    let mut ends = [0; 65];
-    let mut marks = [0; 65];
-    for row in 0..rows.min(65) {
-        let at = place_of(head, row);
-        starts[row] = operand(tape, at, 1);
-        ends[row] = operand(tape, at, 3);
-        marks[row] = mark_stated(byte_at(tape, at));
-    }
-    let report = Report {
-        kind,
-        ticks: operand(tape, 0, 1),
-        hours: hours_stated(tape, kind),
-        rows,
-    };
     Some(Stated {
-        report,
-        starts,
-        ends,
-        marks,
+        report: Report { rows, ..head },
+        rows: from_fn(|row| {
+            if row < rows {
+                row_at(rest, row).unwrap_or(NO_ROW)
+            } else {
+                NO_ROW
+            }
+        }),
     })
 }

@@ -32,44 +32,45 @@ pub struct Places {
     pub marks: usize,
 }
 
-const ALL: Places = Places {
+// As many as the reader asks for.
+pub const ALL: Places = Places {
     starts: 64,
     ends: 64,
     marks: 64,
 };
 
 // Whether a call with so many places gives what is stated and writes its rows and nothing else, or is refused by this number and writes nothing.
-fn gives(tape: &[u8], places: Places, stated: Result<&Stated, u8>) -> bool {
+pub fn gives(tape: &[u8], places: Places, stated: Result<&Stated, u8>) -> bool {
     let words: [u16; 65] = from_fn(pattern_word);
-    let marks: [u8; 65] = from_fn(pattern_mark);
-    let mut s = words;
-    let mut e = words;
-    let mut m = marks;
+    let bytes: [u8; 65] = from_fn(pattern_mark);
+    let mut starts = words;
+    let mut ends = words;
+    let mut marks = bytes;
     let read = read_fleet(
         tape,
-        &mut s[..places.starts.min(65)],
-        &mut e[..places.ends.min(65)],
-        &mut m[..places.marks.min(65)],
+        &mut starts[..places.starts.min(65)],
+        &mut ends[..places.ends.min(65)],
+        &mut marks[..places.marks.min(65)],
     );
     match stated {
         Ok(stated) => {
-            let rows = stated.report.rows;
+            let rows = stated.rows;
+            let n = stated.report.rows;
             read == Ok(stated.report)
-                && is_after(&s, &stated.starts, &words, rows)
-                && is_after(&e, &stated.ends, &words, rows)
-                && is_after(&m, &stated.marks, &marks, rows)
+                && is_after(&starts, &rows.map(|row| row.start), &words, n)
+                && is_after(&ends, &rows.map(|row| row.end), &words, n)
+                && is_after(&marks, &rows.map(|row| row.mark), &bytes, n)
         }
         Err(number) => {
-            read.map_err(u8::from) == Err(number) && s == words && e == words && m == marks
+            read.map_err(u8::from) == Err(number)
+                && starts == words
+                && ends == words
+                && marks == bytes
         }
     }
 }
 
-// Refused by this number, with the lists untouched, where the lists have so many places.
-pub fn refused_with(tape: &[u8], number: u8, places: Places) -> bool {
-    gives(tape, places, Err(number))
-}
-
+// Refused by this number, with the lists untouched.
 pub fn refused(tape: &[u8], number: u8) -> bool {
     gives(tape, ALL, Err(number))
 }

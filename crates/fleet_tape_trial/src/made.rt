@@ -1,29 +1,21 @@
-// What fleet tapes state, made from a seed, and their tapes, by an encoder that shares nothing with the reader.
+// What fleet tapes state, made from a seed, and their tapes, by an encoder that shares nothing with the reader: it is written from papers 01 and 02 alone.
 use fleet_tape::Report;
-use window::Kind;
+use plan_tape_made::buffer::Buffer;
+use plan_tape_made::sequence::{below, next};
+use std::array::from_fn;
+use window::{Kind, Row};
 
-// What a tape states: what is to be reported, and its rows at the front of the lists.
+// What a tape states: what is to be reported, which has the number of its rows, and the rows in front of an array, since the program has no heap.
 #[derive(Clone, Copy)]
 pub struct Stated {
     pub report: Report,
-    pub starts: [u16; 65],
-    pub ends: [u16; 65],
-    pub marks: [u8; 65],
+    pub rows: [Row; 65],
 }
 
-// ---- chance
-
-pub fn next(seed: u64) -> u64 {
-    ((seed % 2147483648) * 1103515245 + 12345) % 2147483648
-}
-
-// A number below n, and 0 where n is 0.
-pub fn below(seed: u64, n: u64) -> u64 {
-    (seed / 65536).checked_rem(n).unwrap_or(0)
-}
+// ---- drawn
 
 pub fn byte_of(seed: u64) -> u8 {
-    ((seed / 65536) % 256) as u8
+    below(seed, 256) as u8
 }
 
 fn word(seed: u64) -> u16 {
@@ -32,18 +24,16 @@ fn word(seed: u64) -> u16 {
 
 // A mark, 0 to 5.
 fn mark(seed: u64) -> u8 {
-    ((seed / 65536) % 6) as u8
+    below(seed, 6) as u8
 }
 
 // The numbers that follow a seed.
 fn after(seed: u64) -> [u64; 65] {
-    let mut list = [0; 65];
     let mut now = seed;
-    for place in list.iter_mut() {
+    from_fn(|_| {
         now = next(now);
-        *place = now;
-    }
-    list
+        now
+    })
 }
 
 fn report_by(kind: Kind, rows: usize, seed: u64) -> Report {
@@ -65,57 +55,55 @@ fn report_by(kind: Kind, rows: usize, seed: u64) -> Report {
 
 // A run or a round of so many rows, made from a seed.
 pub fn stated_by(kind: Kind, rows: usize, seed: u64) -> Stated {
+    let starts = after(seed / 2);
+    let ends = after(seed / 3);
+    let marks = after(seed / 5);
     Stated {
         report: report_by(kind, rows, seed),
-        starts: after(seed / 2).map(word),
-        ends: after(seed / 3).map(word),
-        marks: after(seed / 5).map(mark),
+        rows: from_fn(|i| Row {
+            start: word(starts[i]),
+            end: word(ends[i]),
+            mark: mark(marks[i]),
+        }),
     }
 }
 
 // The same with start equal to end in each row.
 pub fn all_day_by(kind: Kind, rows: usize, seed: u64) -> Stated {
-    let starts = after(seed / 2).map(word);
+    let made = stated_by(kind, rows, seed);
     Stated {
-        ends: starts,
-        ..stated_by(kind, rows, seed)
+        rows: made.rows.map(|row| Row {
+            end: row.start,
+            ..row
+        }),
+        ..made
     }
 }
 
-// ---- the encoder: a tape is an array with a place beside it, since the program has no heap
+// ---- the encoder
 
-pub fn put_byte(tape: &mut [u8], at: usize, byte: u8) -> usize {
-    if at < tape.len() {
-        tape[at] = byte;
-        return at + 1;
+fn put_word(tape: &mut Buffer, word: u16) {
+    tape.put(&word.to_be_bytes());
+}
+
+fn put_hours(tape: &mut Buffer, hours: [[u16; 2]; 2]) {
+    tape.put(&[0x50]);
+    for [opening, closing] in hours {
+        put_word(tape, opening);
+        put_word(tape, closing);
     }
-    at
 }
 
-fn put_word(tape: &mut [u8], at: usize, word: u16) -> usize {
-    let low = put_byte(tape, at, (word / 256) as u8);
-    put_byte(tape, low, (word % 256) as u8)
-}
-
-fn put_hours(tape: &mut [u8], at: usize, hours: [[u16; 2]; 2]) -> usize {
-    let p1 = put_byte(tape, at, 0x50);
-    let q1 = put_word(tape, p1, hours[0][0]);
-    let p2 = put_word(tape, q1, hours[0][1]);
-    let q2 = put_word(tape, p2, hours[1][0]);
-    put_word(tape, q2, hours[1][1])
-}
-
-fn put_head(tape: &mut [u8], report: Report) -> usize {
-    let hours = report.hours;
+fn put_head(tape: &mut Buffer, report: Report) {
     match report.kind {
         Kind::Round => {
-            let ticks = put_byte(tape, 0, 0x10);
-            put_word(tape, ticks, report.ticks)
+            tape.put(&[0x10]);
+            put_word(tape, report.ticks);
         }
         Kind::Run => {
-            let ticks = put_byte(tape, 0, 0x11);
-            let command = put_word(tape, ticks, report.ticks);
-            put_hours(tape, command, hours)
+            tape.put(&[0x11]);
+            put_word(tape, report.ticks);
+            put_hours(tape, report.hours);
         }
     }
 }
@@ -132,22 +120,19 @@ fn command_of(mark: u8) -> u8 {
     }
 }
 
-fn put_row(tape: &mut [u8], at: usize, start: u16, end: u16, mark: u8) -> usize {
-    let first = put_byte(tape, at, command_of(mark));
-    let second = put_word(tape, first, start);
-    put_word(tape, second, end)
+fn put_row(tape: &mut Buffer, row: Row) {
+    tape.put(&[command_of(row.mark)]);
+    put_word(tape, row.start);
+    put_word(tape, row.end);
 }
 
-// Writes the tape that states this and returns its length.
-pub fn write_tape(made: &Stated, tape: &mut [u8]) -> usize {
-    let mut at = put_head(tape, made.report);
-    for i in 0..made.report.rows.min(65) {
-        at = put_row(tape, at, made.starts[i], made.ends[i], made.marks[i]);
+// The tape that states this.
+pub fn tape_of(made: &Stated) -> Buffer {
+    let mut tape = Buffer::empty();
+    put_head(&mut tape, made.report);
+    for row in made.rows.iter().take(made.report.rows) {
+        put_row(&mut tape, *row);
     }
-    put_byte(tape, at, 0x7F)
-}
-
-// The first n bytes; the whole where there are fewer.
-pub fn front(tape: &[u8], n: usize) -> &[u8] {
-    &tape[..n.min(tape.len())]
+    tape.put(&[0x7F]);
+    tape
 }

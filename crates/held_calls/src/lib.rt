@@ -10,7 +10,8 @@ use refusals::Refusal;
 use trial_calls::{BEFORE, LENT_BYTES};
 use window::Row;
 
-// A held table as a trial keeps it: its numbers, and lists with two places more than a call is lent, so that a step beyond the lent ones is seen.
+// A held table as a trial keeps it: its numbers, and arrays, since nothing is allocated. A call is lent the first places of each, and there are two more, so that a step
+// beyond the lent ones is seen.
 #[derive(Clone, Copy, PartialEq, Eq)]
 pub struct Held {
     pub numbers: Numbers,
@@ -48,90 +49,55 @@ pub fn with_space(bytes: usize) -> Lent {
     }
 }
 
-// Two held tables are the same, at the places that count and at the others.
+// Two held tables are the same, at the places that count and at the others: the contract says what the derived `==` compares.
 pub fn same_held(held: Held, held2: Held) -> bool
     ensures { (result ≡ true) ↔ Same held held2 }
 {
     held == held2
 }
 
-fn call(
-    held: &mut held_table::Held,
-    change: Change,
-    labels: &mut [u8],
-    space: &mut [u8],
-) -> Result<usize, Refusal> {
-    match change {
-        Change::Add(row) => held.add(row, labels, space),
-        Change::Withdraw(k) => held.withdraw(k, labels, space),
-    }
-}
-
 impl Held {
     // What a call answers that is lent so much of the lists and of the working space, and the table after it.
     fn changed(
-        self,
+        mut self,
         change: Change,
         space: &mut [u8],
         lent: Lent,
     ) -> (Result<usize, Refusal>, Held) {
-        let mut starts = self.starts;
-        let mut ends = self.ends;
-        let mut marks = self.marks;
-        let mut labels = self.labels;
-        let places = lent.labels.min(66);
-        let bytes = lent.bytes.min(space.len());
         let mut held = held_table::Held {
             numbers: self.numbers,
-            starts: &mut starts[..lent.starts.min(66)],
-            ends: &mut ends[..lent.ends.min(66)],
-            marks: &mut marks[..lent.marks.min(66)],
+            starts: &mut self.starts[..lent.starts.min(66)],
+            ends: &mut self.ends[..lent.ends.min(66)],
+            marks: &mut self.marks[..lent.marks.min(66)],
         };
-        let answer = call(
-            &mut held,
-            change,
-            &mut labels[..places],
-            &mut space[..bytes],
-        );
-        let numbers = held.numbers;
-        let after = Held {
-            numbers,
-            starts,
-            ends,
-            marks,
-            labels,
+        let labels = &mut self.labels[..lent.labels.min(66)];
+        let bytes = lent.bytes.min(space.len());
+        let answer = match change {
+            Change::Add(row) => held.add(row, labels, &mut space[..bytes]),
+            Change::Withdraw(k) => held.withdraw(k, labels, &mut space[..bytes]),
         };
-        (answer, after)
+        self.numbers = held.numbers;
+        (answer, self)
     }
 }
 
 // Whether a change to a held table gives the table that is expected, or is refused by the number, "with count 0", and leaves the table; and leaves the working space
 // as the planner does.
 pub fn is_changed(before: Held, change: Change, lent: Lent, expected: Result<Held, u8>) -> bool {
-    let (number, count, after) = match expected {
-        Ok(after) => (0, after.numbers.count, after),
-        Err(number) => (number, 0, before),
-    };
     let mut space = [BEFORE; LENT_BYTES];
     let (answer, held) = before.changed(change, &mut space, lent);
-    trial_calls::is_answer(answer, number, count)
-        && trial_calls::is_left(&space, number)
-        && same_held(held, after)
+    trial_calls::is_answer(answer, expected.map(|after| after.numbers.count))
+        && trial_calls::is_left(&space, expected.err())
+        && same_held(held, expected.unwrap_or(before))
 }
 
-// Whether a begin gives an empty table of R and g, with the number 0, or is refused by the number.
-pub fn is_begun(ticks: u16, gap: u16, number: u8) -> bool {
-    match held_table::begin(ticks, gap) {
-        Ok(numbers) => {
-            number == 0
-                && numbers
-                    == Numbers {
-                        ticks,
-                        gap,
-                        rows: 0,
-                        count: 0,
-                    }
-        }
-        Err(refusal) => u8::from(refusal) == number,
-    }
+// Whether a begin gives an empty table of R and g, or is refused by the number.
+pub fn is_begun(ticks: u16, gap: u16, expected: Result<(), u8>) -> bool {
+    let begun = expected.map(|()| Numbers {
+        ticks,
+        gap,
+        rows: 0,
+        count: 0,
+    });
+    held_table::begin(ticks, gap).map_err(u8::from) == begun
 }

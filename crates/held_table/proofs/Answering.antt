@@ -9,12 +9,13 @@ use borrow.Author.Tests.{eq-eqb, ne_eqb, ltb-true, leb-true}
 use lib.Dec.{leb, ltb, eqb}
 use lib.ListN.{length}
 use Rattle.basics.specs.Limits.{max_rows, has_places}
-use Rattle.basics.proofs.Tests.{eqb_iff, and_iff}
+use Rattle.std.proofs.lemmas.Bool.Decides.{Decides-eqb}
+use Rattle.basics.proofs.Tests.{and_iff}
 use Rattle.basics.proofs.Places.{places_iff}
 use Rattle.window.specs.declared.Row.{Row}
-use Rattle.std.specs.Prelude.{Err}
+use Rattle.std.specs.Prelude.{Result, Ok, Err, IsErrAnd}
 use Rattle.refusals.specs.declared.Refusal.{Refusal}
-use Rattle.refusals.specs.Refusals.{number_of, answered, asked, ◌then◌, Lists, Rows, Space, NoRow, Outcome}
+use Rattle.refusals.specs.Refusals.{number_of, answered, answer_of, asked, ◌then◌, Lists, Rows, Space, NoRow, Outcome}
 use Rattle.refusals.proofs.Refusals.{Passed, err_refuses, asked_passed, asked_passes, then_passed, then_either}
 use Rattle.table.specs.Tables.{Table}
 use Rattle.table.specs.Changes.{with_row, without_row}
@@ -69,7 +70,7 @@ has_places_iff h =
     let c = length h.marks in
     let d = length h.labels in
     let x = has_places a b c && eqb d max_rows in
-    let test = and_iff (places_iff h.starts h.ends h.marks) (eqb_iff d max_rows) in (
+    let test = and_iff (places_iff h.starts h.ends h.marks) (Decides-eqb d max_rows) in (
       λ p. let f = test.0 (asked_passed x Lists (omega arith) p) in record { rows_64 = f.0; labels_64 = f.1 },
       λ p. asked_passes x Lists (test.1 (p.rows_64, p.labels_64)),
     )
@@ -94,23 +95,25 @@ row_held h space k p =
       most = leb-true h.numbers.rows max_rows (asked_passed most Rows (omega arith) g.1);
     }
 
--- ---- the calls
+-- ---- the calls; a refusal of the first checks is handed on
 
 module _ (h : HeldTable) (space : List ℕ) where
-  pub add_refused : (row : Row) {e : Refusal} → Err e ≡ add_first h → gave (answered (Err e) 0) h space ≡ add_call h row space
+  pub add_refused : (row : Row) {e : Refusal} → Err e ≡ add_first h → (r : Result ℕ Refusal) → IsErrAnd r (λ y. y ≡ e) → gave (answer_of r) h space ≡ add_call h row space
   unfolding add_call added
-  add_refused row {e} q =
-      ap (λ x. gave (answered x 0) h space) q
+  add_refused row q (Ok n) i = absurd i
+  add_refused row {e = e} q (Err y) i =
+      ap (λ x. gave (answered x 0) h space) (ap Err i ∙ q)
       ∙ call_refused h (with_row (held_table h) row) space (add_first h) (λ z. err_refuses (Err e) refl (ap number_of q ∙ z)) (add_8 (length h.starts) (length h.ends) (length h.marks) (length h.labels) h.numbers.rows)
 
   pub add_planned : (row : Row) {c : HeldCall} → Passed (add_first h) → c ≡ plan_rows h (with_row (held_table h) row) space → c ≡ add_call h row space
   unfolding add_call added
   add_planned row p e = e ∙ call_planned h (with_row (held_table h) row) space (add_first h) p
 
-  pub withdraw_refused : (k : ℕ) {e : Refusal} → Err e ≡ withdraw_first h k (length space) → gave (answered (Err e) 0) h space ≡ withdraw_call h k space
+  pub withdraw_refused : (k : ℕ) {e : Refusal} → Err e ≡ withdraw_first h k (length space) → (r : Result ℕ Refusal) → IsErrAnd r (λ y. y ≡ e) → gave (answer_of r) h space ≡ withdraw_call h k space
   unfolding withdraw_call withdrawn
-  withdraw_refused k {e} q =
-      ap (λ x. gave (answered x 0) h space) q
+  withdraw_refused k q (Ok n) i = absurd i
+  withdraw_refused k {e = e} q (Err y) i =
+      ap (λ x. gave (answered x 0) h space) (ap Err i ∙ q)
       ∙ call_refused h (without_row (held_table h) k) space (withdraw_first h k (length space)) (λ z. err_refuses (Err e) refl (ap number_of q ∙ z)) (withdraw_8 (length h.starts) (length h.ends) (length h.marks) (length h.labels) (length space) h.numbers.rows k)
 
   pub withdraw_planned : (k : ℕ) {c : HeldCall} → Passed (withdraw_first h k (length space)) → c ≡ plan_rows h (without_row (held_table h) k) space → c ≡ withdraw_call h k space

@@ -9,4 +9,3 @@ pub mod Answering
 pub mod Adding
 pub mod Withdrawing
 pub mod Planning
-pub mod Beginning

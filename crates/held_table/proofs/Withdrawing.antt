@@ -1,11 +1,9 @@
 -- Rows moved up over a row are the shorter table at the front of the lists; and they can be moved back.
-use Prim.Native.Nat.{ℕ, ◌+◌, ◌-◌, ◌≤◌, ◌<◌}
+use Prim.Native.Nat.{ℕ, ◌-◌, ◌≤◌, ◌<◌}
 use mathlib.Core.Path.{◌≡◌, refl, ap, ◌∙◌}
 use mathlib.Core.List.{List}
 use native.Mathlib.Omega.{arith}
-use lib.ListN.{length, take, drop, set}
-use lib.Seq.{length-sets}
-use Rattle.basics.specs.Limits.{Places}
+use lib.ListN.{length, set}
 use Rattle.basics.specs.Lists.{at}
 use Rattle.table.specs.Changes.{without_row}
 use Rattle.held_table.specs.Held.{HeldTable, held_table}
@@ -13,22 +11,6 @@ use Rattle.row_lists.specs.Moved.{moved_up, moved_down}
 use Rattle.row_lists.proofs.Moving.{length_rest, up_front, up_down}
 use Rattle.held_table.specs.Lent.{RowHeld}
 use Rattle.held_table.proofs.Planning.{NewRows}
-
--- lists of 64 places keep them where each is changed so
-pub places_kept : {starts ends marks starts' ends' marks' : List ℕ} (f : List ℕ → List ℕ) → ((l : List ℕ) → length (f l) ≡ length l) → Places starts ends marks
-    → (starts' ≡ f starts) × ((ends' ≡ f ends) × (marks' ≡ f marks)) → Places starts' ends' marks'
-places_kept {starts} {ends} {marks} f keeps p s =
-    record {
-      starts_64 = ap length s.0 ∙ keeps starts ∙ p.starts_64;
-      ends_64 = ap length s.1.0 ∙ keeps ends ∙ p.ends_64;
-      marks_64 = ap length s.1.1 ∙ keeps marks ∙ p.marks_64;
-    }
-
-pub length_up : (k n : ℕ) (l : List ℕ) → length (moved_up k n l) ≡ length l
-length_up k n l = length-sets l k (drop (k + 1) (take n l))
-
-pub length_down : (k n : ℕ) (l : List ℕ) → length (moved_down k n l) ≡ length l
-length_down k n l = length-sets l (k + 1) (drop k (take n l))
 
 -- the rows are moved down again, and the row that stood at place k is stored
 pub moved_back : (l : List ℕ) (k n y : ℕ) {up down back : List ℕ} → k < n → n ≤ length l

@@ -50,6 +50,7 @@ impl Numbers {
 }
 
 // BEGINS a held table of a round. The table is empty whatever its lists hold: no place of them counts yet.
+#[tactic(auto, unfolding(crate::specs::Held::begun))]
 pub fn begin(ticks: u16, gap: u16) -> Result<Numbers, Refusal>
     ensures { begun_as result ≡ begun ticks gap }
 {
@@ -58,6 +59,8 @@ pub fn begin(ticks: u16, gap: u16) -> Result<Numbers, Refusal>
     Ok(Numbers::empty(ticks, gap))
 }
 
+// That the lists stay the same is said in each contract of a change: it is a relation of before and after, which no field can state.
+// Labels and working space are parameters, as they are of the planner, to which they are handed on.
 impl<'a> Held<'a> {
     // Row i, or what its place holds.
     fn row(&self, i: usize) -> Row
@@ -87,19 +90,20 @@ impl<'a> Held<'a> {
     }
 
     // Check 1; the list of labels has so many places.
+    #[tactic(auto, unfolding(crate::specs::Held::places_refusal))]
     fn check_places(&self, labels: usize) -> Result<(), Refusal>
         ensures { result ≡ places_refusal (length self.now.starts.now) (length self.now.ends.now) (length self.now.marks.now) labels }
     {
-        if !basics::has_places(self.starts.len(), self.ends.len(), self.marks.len()) {
-            return Err(Refusal::Lists);
-        }
-        if labels != MAX_ROWS {
+        if !basics::has_places(self.starts.len(), self.ends.len(), self.marks.len())
+            || labels != MAX_ROWS
+        {
             return Err(Refusal::Lists);
         }
         Ok(())
     }
 
     // Checks 1 and 2 of an addition.
+    #[tactic(auto, unfolding(crate::specs::Held::add_checked))]
     fn check_add(&self, labels: &[u8]) -> Result<(), Refusal>
         ensures { result ≡ add_first (held self.now labels.now) }
     {
@@ -111,6 +115,7 @@ impl<'a> Held<'a> {
     }
 
     // Checks 1, 3 and 15 of a withdrawal of row k, and that the rows are not too many.
+    #[tactic(auto, unfolding(crate::specs::Held::withdraw_checked, table::specs::Planned::space_refusal))]
     fn check_withdraw(&self, k: usize, labels: &[u8], space: usize) -> Result<(), Refusal>
         ensures { result ≡ withdraw_first (held self.now labels.now) k space }
     {

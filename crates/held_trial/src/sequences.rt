@@ -1,21 +1,19 @@
 // Sequences of random changes, each from an empty table, and each change judged whole. The next change is to the table that is expected: where nothing differs, it is the one that the call left.
 use crate::drawn::{Drawn, Round};
-use crate::tally::{Additions, Lent, Withdrawals};
+use crate::tally::{Additions, BySpace, Withdrawals};
 use crate::{drawn, expected, kept};
 use held_calls::{Change, Held, is_changed, with_space};
 use trial_report::more;
 
-// The changes of a sequence, and for how many of them from the first on its table grows.
+// The changes of a sequence.
 const CHANGES: u32 = 320;
-
-const GROWING: u32 = 200;
 
 #[derive(Clone, Copy, Default)]
 pub struct Tally {
     pub changes: u32,
     pub additions: Additions,
     pub withdrawals: Withdrawals,
-    pub lent: Lent,
+    pub lent: BySpace,
     pub differ: u32,
     state: u64,
 }
@@ -56,13 +54,15 @@ impl Tally {
     }
 
     // One sequence more.
-    fn with_sequence(self, round: Round) -> Tally {
+    fn with_sequence<F: Fn(Held) -> Result<Held, u8>>(self, round: Round, planned: &F) -> Tally
+        requires { F.IsAlwaysCallable planned.now }
+    {
         let mut s = Sequence {
             held: kept::empty(round.ticks, round.gap),
             tally: self,
         };
         for turn in 0..CHANGES {
-            s = s.with_change(round, turn < GROWING);
+            s = s.with_change(round, turn, planned);
         }
         s.tally
     }
@@ -70,10 +70,17 @@ impl Tally {
 
 impl Sequence {
     // One change more is drawn and judged.
-    fn with_change(self, round: Round, grows: bool) -> Sequence {
+    fn with_change<F: Fn(Held) -> Result<Held, u8>>(
+        self,
+        round: Round,
+        turn: u32,
+        planned: &F,
+    ) -> Sequence
+        requires { F.IsAlwaysCallable planned.now }
+    {
         let held = self.held;
-        let drawn = drawn::draw(round, held.numbers.rows, grows, self.tally.state);
-        let expected = expected::changed(held, drawn.change, drawn.bytes, round.brute);
+        let drawn = drawn::draw(round, held.numbers.rows, turn, self.tally.state);
+        let expected = expected::changed(held, drawn.change, drawn.bytes).and_then(planned);
         let right = is_changed(held, drawn.change, with_space(drawn.bytes), expected);
         Sequence {
             held: expected.unwrap_or(held),
@@ -82,51 +89,52 @@ impl Sequence {
     }
 }
 
-fn round(ticks: u16, gap: u16, longest: u16, brute: bool) -> Round {
-    Round {
-        ticks,
-        gap,
-        longest,
-        brute,
-    }
-}
+// R, g and the longest windows of short days, so that much overlaps, touches and is equal.
+const SHORT: [[u16; 3]; 8] = [
+    [2, 0, 1],
+    [3, 1, 2],
+    [7, 0, 4],
+    [10, 0, 5],
+    [10, 2, 4],
+    [24, 0, 9],
+    [24, 3, 8],
+    [60, 7, 30],
+];
 
-// Short days, so that much overlaps, touches and is equal. A match, as each arm is a round and no step: a table of rounds would be no plainer.
-fn small(turn: u32) -> Round {
-    match turn % 8 {
-        0 => round(2, 0, 1, true),
-        1 => round(3, 1, 2, true),
-        2 => round(7, 0, 4, true),
-        3 => round(10, 0, 5, true),
-        4 => round(10, 2, 4, true),
-        5 => round(24, 0, 9, true),
-        6 => round(24, 3, 8, true),
-        _ => round(60, 7, 30, true),
-    }
-}
+// Of days in which 64 windows lie about one deep.
+const LONG: [[u16; 3]; 4] = [[200, 0, 9], [200, 2, 8], [1000, 5, 60], [43200, 600, 2000]];
 
-// Days in which 64 windows lie about one deep.
-fn large(turn: u32) -> Round {
-    match turn % 4 {
-        0 => round(200, 0, 9, false),
-        1 => round(200, 2, 8, false),
-        2 => round(1000, 5, 60, false),
-        _ => round(43200, 600, 2000, false),
-    }
-}
-
-fn round_of(brute: bool, turn: u32) -> Round {
-    if brute { small(turn) } else { large(turn) }
-}
-
-// So many sequences, planned by brute force or not.
-pub fn all(sequences: u32, brute: bool) -> Tally {
+// So many sequences of such rounds by turns; `planned` gives a changed table its plan. `as`, since std has no `From<u32>` for usize.
+fn all<F: Fn(Held) -> Result<Held, u8>>(
+    sequences: u32,
+    days: &[[u16; 3]],
+    most: usize,
+    planned: F,
+) -> Tally
+    requires { F.IsAlwaysCallable planned }
+{
     let mut tally = Tally {
         state: 271,
         ..Tally::default()
     };
-    for turn in 0..sequences {
-        tally = tally.with_sequence(round_of(brute, turn));
+    for [ticks, gap, longest] in days.iter().cycle().take(sequences as usize) {
+        let round = Round {
+            ticks: *ticks,
+            gap: *gap,
+            longest: *longest,
+            most,
+        };
+        tally = tally.with_sequence(round, &planned);
     }
     tally
+}
+
+// Tables of at most 7 rows, planned by brute force.
+pub fn small(sequences: u32) -> Tally {
+    all(sequences, &SHORT, 7, expected::with_brute_force)
+}
+
+// Tables of at most 64 rows, to which a 65th may be offered, planned by the planner.
+pub fn large(sequences: u32) -> Tally {
+    all(sequences, &LONG, 65, expected::with_planner)
 }

@@ -2,18 +2,14 @@
 use crate::kept;
 use crate::kept::{with_plan, with_row};
 use held_calls::Held;
-use window::Row;
-
-fn row(start: u16, end: u16, mark: u8) -> Row {
-    Row { start, end, mark }
-}
+use trial_calls::row;
 
 // A round of 10 ticks: 4–5 and 4–5, which must be heard, and 8–9.
 pub fn three_rows() -> Held {
     let mut h = kept::empty(10, 0);
-    h = with_row(h, row(4, 5, 1));
-    h = with_row(h, row(4, 5, 1));
-    h = with_row(h, row(8, 9, 0));
+    for row in [row(4, 5, 1), row(4, 5, 1), row(8, 9, 0)] {
+        h = with_row(h, row);
+    }
     with_plan(h, &[1, 2, 1], 3)
 }
 

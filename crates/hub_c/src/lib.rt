@@ -1,6 +1,6 @@
 // The hub planner's functions for C and Rust. A round and a run have a function each, so that no bad kind can be passed. No function has a `requires`: each answers every
 // input. Each list is the address of its first element and its length in elements; the address is not NULL, also where the length is 0, and is aligned for its type; a
-// list that is written overlaps no other list of the same call.
+// list that is written overlaps no other list of the same call. C has no Result: its structs have a refusal's number beside the values.
 #![tactic(auto)]
 
 ghost use Rattle.std.specs.Prelude.{◌≡◌};
@@ -10,17 +10,17 @@ ghost use Rattle.table.specs.Tables.{setting_of, table, lent};
 ghost use Rattle.table.specs.Planned.{plan_call};
 ghost use Rattle.plan_tape.specs.Written.{written};
 ghost use Rattle.fleet_tape.specs.Reading.{fleet_read, report_of};
-ghost use Rattle.player.specs.Played.{player_at, stepped, started};
+ghost use Rattle.player.specs.Played.{player_at, stepped, started_of, started};
 ghost use Rattle.reply.specs.Replied.{replying, replied};
 ghost use Rattle.hub_c.specs.Handed.{handed, handed_report, plan_gave, handed_plan, tape_gave, handed_tape, read_gave, handed_read, handed_player, handed_receiver, handed_started, handed_stepped, handed_numbers, numbers_from, handed_begun, handed_change, held_gave, handed_held, handed_looked, tried_gave, handed_tried};
-ghost use Rattle.held_table.specs.Held.{kept, begun, add_call, withdraw_call};
+ghost use Rattle.held_table.specs.Held.{kept, begun_as, begun, add_call, withdraw_call};
 ghost use Rattle.candidates.specs.Tried.{candidates, candidates_call};
 ghost use Rattle.window.specs.Rows.{row};
 ghost use Rattle.window.specs.Hours.{hours_from, no_hours};
 
 use fleet_tape::Report;
 use held_table::{Held, Numbers};
-use player::{Player, Receiver};
+use player::{Player, Receiver, Stepped};
 use refusals::Refusal;
 use table::{Looked, Rows, Setting, Table};
 use window::{Kind, Row};
@@ -337,21 +337,43 @@ impl From<Receiver> for HubReceiver {
     }
 }
 
-// Starts a player on a plan tape at a first tick. A refused start gives a player that is finished on every tape: no R is above its tick.
+// A refused start gives a player that is finished on every tape: no R is above its tick.
+impl From<Result<Player, Refusal>> for HubStarted {
+    ghost from_gives = { λ given handed. handed ≡ handed_started (started_of given) };
+
+    fn from(given: Result<Player, Refusal>) -> HubStarted {
+        match given {
+            Ok(player) => HubStarted {
+                refusal: 0,
+                player: player.into(),
+            },
+            Err(refusal) => HubStarted {
+                refusal: refusal.into(),
+                player: Player::finished().into(),
+            },
+        }
+    }
+}
+
+impl From<Stepped> for HubStepped {
+    ghost from_gives = { λ step handed. handed ≡ handed_stepped step };
+
+    fn from(step: Stepped) -> HubStepped {
+        HubStepped {
+            finished: step.state.finished,
+            receiver1: step.state.receiver1.into(),
+            receiver2: step.state.receiver2.into(),
+            player: step.player.into(),
+        }
+    }
+}
+
+// Starts a player on a plan tape at a first tick.
 #[unsafe(no_mangle)]
 pub extern "C" fn hub_player_start(tape: &[u8], first: u16) -> HubStarted
     ensures { result ≡ handed_started (started tape.now first) }
 {
-    match Player::start(tape, first) {
-        Ok(player) => HubStarted {
-            refusal: 0,
-            player: player.into(),
-        },
-        Err(refusal) => HubStarted {
-            refusal: refusal.into(),
-            player: Player::finished().into(),
-        },
-    }
+    Player::start(tape, first).into()
 }
 
 // A step of a player on a plan tape: it tells for the player's tick and then moves on.
@@ -359,13 +381,7 @@ pub extern "C" fn hub_player_start(tape: &[u8], first: u16) -> HubStarted
 pub extern "C" fn hub_player_step(tape: &[u8], player: HubPlayer) -> HubStepped
     ensures { result ≡ handed_stepped (stepped tape.now (player_at player.tick)) }
 {
-    let step = Player { tick: player.tick }.step(tape);
-    HubStepped {
-        finished: step.state.finished,
-        receiver1: step.state.receiver1.into(),
-        receiver2: step.state.receiver2.into(),
-        player: step.player.into(),
-    }
+    Player { tick: player.tick }.step(tape).into()
 }
 
 // The numbers of a held table, handed over to C and in from C.
@@ -395,15 +411,35 @@ impl From<HubHeldNumbers> for Numbers {
     }
 }
 
-// A change of a held table by its numbers, and the numbers of what is then held.
-fn hand_over_change(given: Result<usize, Refusal>, numbers: Numbers) -> HubHeldChange
-    ensures { result ≡ handed_change (answer_of given) numbers }
-{
-    let answer = HubAnswer::from(given);
-    HubHeldChange {
-        refusal: answer.refusal,
-        count: answer.count,
-        numbers: numbers.into(),
+// A refused begin leaves an empty table of R 2, g 0.
+impl From<Result<Numbers, Refusal>> for HubHeldBegun {
+    ghost from_gives = { λ given handed. handed ≡ handed_begun (begun_as given) };
+
+    fn from(given: Result<Numbers, Refusal>) -> HubHeldBegun {
+        match given {
+            Ok(numbers) => HubHeldBegun {
+                refusal: 0,
+                numbers: numbers.into(),
+            },
+            Err(refusal) => HubHeldBegun {
+                refusal: refusal.into(),
+                numbers: Numbers::empty(2, 0).into(),
+            },
+        }
+    }
+}
+
+// What a change of a held table gave, and the numbers of what is then held.
+impl From<(Result<usize, Refusal>, Numbers)> for HubHeldChange {
+    ghost from_gives = { λ changed handed. handed ≡ handed_change (answer_of changed.0) changed.1 };
+
+    fn from((given, numbers): (Result<usize, Refusal>, Numbers)) -> HubHeldChange {
+        let answer = HubAnswer::from(given);
+        HubHeldChange {
+            refusal: answer.refusal,
+            count: answer.count,
+            numbers: numbers.into(),
+        }
     }
 }
 
@@ -412,16 +448,7 @@ fn hand_over_change(given: Result<usize, Refusal>, numbers: Numbers) -> HubHeldC
 pub extern "C" fn hub_held_begin(ticks: u16, gap: u16) -> HubHeldBegun
     ensures { result ≡ handed_begun (begun ticks gap) }
 {
-    match held_table::begin(ticks, gap) {
-        Ok(numbers) => HubHeldBegun {
-            refusal: 0,
-            numbers: numbers.into(),
-        },
-        Err(refusal) => HubHeldBegun {
-            refusal: refusal.into(),
-            numbers: Numbers::empty(2, 0).into(),
-        },
-    }
+    held_table::begin(ticks, gap).into()
 }
 
 // Adds a row to a held table, at the end.
@@ -446,7 +473,7 @@ pub extern "C" fn hub_held_add(
         marks,
     };
     let given = held.add(Row { start, end, mark }, labels, space);
-    hand_over_change(given, held.numbers)
+    (given, held.numbers).into()
 }
 
 // Withdraws a row of a held table; later rows move up one.
@@ -469,7 +496,7 @@ pub extern "C" fn hub_held_withdraw(
         marks,
     };
     let given = held.withdraw(row, labels, space);
-    hand_over_change(given, held.numbers)
+    (given, held.numbers).into()
 }
 
 impl From<Looked> for HubTried {

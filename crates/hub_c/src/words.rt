@@ -3,11 +3,13 @@ ghost use Rattle.std.specs.Prelude.{◌≡◌};
 ghost use Rattle.window.specs.declared.Kind.TheVariants.{Round, Run};
 ghost use Rattle.window.specs.Hours.{no_hours};
 ghost use Rattle.table.specs.Tables.{setting_of};
-ghost use Rattle.bit_words.specs.Words.{words_call, labels_call, must_call};
+ghost use Rattle.bit_words.specs.Words.{words_given, words_call, labels_call, must_given, must_call};
 ghost use Rattle.bit_words.specs.Clashes.{windows_of, clash_call};
 ghost use Rattle.hub_c.specs.Handed.{handed_words, labels_gave, handed_labels, handed_must, clash_gave, handed_clash};
 
 use crate::HubAnswer;
+use bit_words::LabelWords;
+use refusals::Refusal;
 use table::Setting;
 use window::Kind;
 
@@ -29,25 +31,48 @@ pub struct HubMustWord {
     pub word: u64,
 }
 
+impl From<Result<LabelWords, Refusal>> for HubLabelWords {
+    ghost from_gives = { λ given handed. handed ≡ handed_words (words_given given) };
+
+    fn from(given: Result<LabelWords, Refusal>) -> HubLabelWords {
+        match given {
+            Ok(words) => HubLabelWords {
+                refusal: 0,
+                count: words.count(),
+                heard: words.heard,
+                receiver: words.receiver,
+            },
+            Err(refusal) => HubLabelWords {
+                refusal: refusal.into(),
+                count: 0,
+                heard: 0,
+                receiver: 0,
+            },
+        }
+    }
+}
+
+// As of `HubAnswer`, in another of C's structs.
+impl From<Result<u64, Refusal>> for HubMustWord {
+    ghost from_gives = { λ given handed. handed ≡ handed_must (must_given given) };
+
+    fn from(given: Result<u64, Refusal>) -> HubMustWord {
+        match given {
+            Ok(word) => HubMustWord { refusal: 0, word },
+            Err(refusal) => HubMustWord {
+                refusal: refusal.into(),
+                word: 0,
+            },
+        }
+    }
+}
+
 // The heard and the receiver word of labels.
 #[unsafe(no_mangle)]
 pub extern "C" fn hub_words_of_labels(labels: &[u8]) -> HubLabelWords
     ensures { result ≡ handed_words (words_call labels.now) }
 {
-    match bit_words::words_of(labels) {
-        Ok(words) => HubLabelWords {
-            refusal: 0,
-            count: words.count,
-            heard: words.heard,
-            receiver: words.receiver,
-        },
-        Err(refusal) => HubLabelWords {
-            refusal: refusal.into(),
-            count: 0,
-            heard: 0,
-            receiver: 0,
-        },
-    }
+    bit_words::words_of(labels).into()
 }
 
 // The labels of a heard and a receiver word, a place for each row.
@@ -55,7 +80,7 @@ pub extern "C" fn hub_words_of_labels(labels: &[u8]) -> HubLabelWords
 pub extern "C" fn hub_labels_of_words(heard: u64, receiver: u64, labels: &mut [u8]) -> HubAnswer
     ensures { labels_gave result labels.new ≡ handed_labels (labels_call heard receiver labels.old) }
 {
-    bit_words::labels_of(heard, receiver, labels).into()
+    bit_words::labels_of(LabelWords { heard, receiver }, labels).into()
 }
 
 // The must word of marks.
@@ -63,13 +88,7 @@ pub extern "C" fn hub_labels_of_words(heard: u64, receiver: u64, labels: &mut [u
 pub extern "C" fn hub_must_of_marks(marks: &[u8]) -> HubMustWord
     ensures { result ≡ handed_must (must_call marks.now) }
 {
-    match bit_words::must_of(marks) {
-        Ok(word) => HubMustWord { refusal: 0, word },
-        Err(refusal) => HubMustWord {
-            refusal: refusal.into(),
-            word: 0,
-        },
-    }
+    bit_words::must_of(marks).into()
 }
 
 // The clash words of windows of a round or a run, and the refusal's number.

@@ -4,6 +4,7 @@ use mathlib.Core.List.{List, [], ◌∷◌}
 use mathlib.Core.Bool.{Bool, true, false, cond, ◌&&◌, and-eq-true_iff, false≢true}
 use mathlib.Core.Logic.{◌≢◌, ◌⊎◌, ⊎_elim, inl, inr}
 use Prim.Native.Nat.{ℕ, zero, suc, ◌+◌, ◌≤◌, ◌<◌, max}
+use native.Mathlib.Decide.{ℕ_discrete}
 use native.Mathlib.Nat.{le_trans}
 use native.Mathlib.Omega.{arith}
 use borrow.Author.Tests.{eqb-true, eqb-false, eq-eqb, ne_eqb, leb-true, leb-false, le-leb}
@@ -28,13 +29,6 @@ put_same f x e y h = rw (eq-eqb x y h)
 
 put_other : (f : ℕ → ℕ) (x e y : ℕ) → (x ≡ y → ⊥) → put f x e y ≡ f y
 put_other f x e y h = rw (ne_eqb x y h)
-
-same_or_not : (x y : ℕ) → (x ≡ y) ⊎ (x ≡ y → ⊥)
-same_or_not x y = by (eqb x y) refl
-  where
-    by : (b : Bool) → eqb x y ≡ b → (x ≡ y) ⊎ (x ≡ y → ⊥)
-    by true h = inl (eqb-true x y h)
-    by false h = inr (eqb-false x y h)
 
 -- every row with a receiver starts when the receiver is no longer busy
 abbrev Free : (ℕ → ℕ) → List ℕ → List ℕ → Type 0
@@ -133,7 +127,7 @@ module _ (s e p : ℕ) (ss es ps : List ℕ) where
 
     -- a later row of the first row's receiver starts after the first has ended
     free_tail : (f : ℕ → ℕ) → Line (s ∷ ss) (e ∷ es) (p ∷ ps) → Settled (s ∷ ss) (e ∷ es) (p ∷ ps) (x ∷ l) → Free f (s ∷ ss) (x ∷ l) → Free (put f x e) ss l
-    free_tail f n a h j k q = ⊎_elim same other (same_or_not x (at l j))
+    free_tail f n a h j k q = go (ℕ_discrete x (at l j))
       where
         other : (x ≡ at l j → ⊥) → put f x e (at l j) ≤ at ss j
         other z = rw (put_other f x e (at l j) z) (h (suc j) (omega arith) q)
@@ -150,13 +144,17 @@ module _ (s e p : ℕ) (ss es ps : List ℕ) where
         same : x ≡ at l j → put f x e (at l j) ≤ at ss j
         same z = rw (put_same f x e (at l j) z) (late (leb e (at ss j)) refl z)
 
+        go : Dec (x ≡ at l j) → put f x e (at l j) ≤ at ss j
+        go (yes z) = same z
+        go (no z) = other z
+
     free_cons : (f : ℕ → ℕ) → Line (s ∷ ss) (e ∷ es) (p ∷ ps) → (x ≢ 0 → f x ≤ s) → Free (put f x e) ss l → Free f (s ∷ ss) (x ∷ l)
     free_cons f n g h zero k q = g q
-    free_cons f n g h (suc j) k q =
-        ⊎_elim
-        (λ z. rw (← z) (le_trans (g (rw z q)) (n.order 0 (suc j) (omega arith) (omega arith))))
-        (λ z. rw (put_other f x e (at l j) z) at (h j (omega arith) q))
-        (same_or_not x (at l j))
+    free_cons f n g h (suc j) k q = go (ℕ_discrete x (at l j))
+      where
+        go : Dec (x ≡ at l j) → f (at l j) ≤ at ss j
+        go (yes z) = rw (← z) (le_trans (g (rw z q)) (n.order 0 (suc j) (omega arith) (omega arith)))
+        go (no z) = rw (put_other f x e (at l j) z) at (h j (omega arith) q)
 
     settled_cons : (f : ℕ → ℕ) → permits p x ≡ true → Settled ss es ps l → Free (put f x e) ss l → Settled (s ∷ ss) (e ∷ es) (p ∷ ps) (x ∷ l)
     settled_cons f m a h = record { each = omega (arith, a.each); allowed = allowed; apart = apart }

@@ -10,13 +10,13 @@ use borrow.Author.Count.{below_more}
 use borrow.Author.Tests.{le-leb}
 use lib.ListN.{length, get_or, drop, set, length-drop, drop_of_length-le, get_or-eq_default}
 use lib.Seq.{get_or-set_same, get_or-set_other, drop-set-lt, get_or-drop}
+use Rattle.std.proofs.lemmas.Bool.{cases_lt}
+use Rattle.std.proofs.lemmas.List.{get_or_default}
 use Rattle.basics.specs.Lists.{at}
 use Rattle.line.specs.Line.{row, rows, cell, best, Line}
 use Rattle.line.specs.Cells.{cell_at, end_at, low_at, Lows, across, cell_bytes, core_bytes}
 use Rattle.line.specs.Stage.{carry, carry_at, Live, Turn, LiveBelow, new_cell, Small, RowMade, StageMade}
 use Rattle.line.proofs.Laws.{end_at_pos, Carried, over, live, carry_is, best_le, Same, best_same, drop_rows, length_rows, start_rows, row_at}
-use Rattle.basics.proofs.Tests.{le_or_lt}
-use Rattle.basics.proofs.Lists.{get_d_any}
 
 -- the start of row k; past the last row a tick at which every row is over
 abbrev pub start_at : List ℕ → ℕ → ℕ
@@ -58,9 +58,9 @@ module _ (es : List ℕ) (s m : ℕ) where
         below = omega arith;
         over = λ y u v.
             ⊎_elim
-            (λ w. omega (arith, o (y - 1) (omega arith), end_at_pos es y (λ z. omega arith)))
             (λ w. l.over y w v)
-            (le_or_lt y a);
+            (λ w. omega (arith, o (y - 1) (omega arith), end_at_pos es y (λ z. omega arith)))
+            (cases_lt a y);
       }
 
   -- none that is passed over matters
@@ -93,7 +93,7 @@ module _ {L : ℕ → Type 0} {N : ℕ → ℕ → ℕ} (k a : ℕ) (t : List �
         new = λ y u w l.
             ⊎_elim
             (λ (q : b ≡ y). rw (← q) (get_or-set_same t' (a * across + b) v 0 (omega arith) ∙ e))
-            (λ (q : b < y). get_or-set_other t' (a * across + b) (a * across + y) v 0 (omega arith) ∙ ⊎_elim (λ z. r.new y z w l) (λ z. absurd (passed y q z l)) (le_or_lt m y))
+            (λ (q : b < y). get_or-set_other t' (a * across + b) (a * across + y) v 0 (omega arith) ∙ ⊎_elim (λ z. absurd (passed y q z l)) (λ z. r.new y z w l) (cases_lt y m))
             (eq-or-lt_of_le u);
         kept = λ j h.
             get_or-set_other t' (a * across + b) j v 0 (λ q. h (omega arith) (omega arith))
@@ -131,7 +131,7 @@ module _ {L : ℕ → Type 0} {N : ℕ → ℕ → ℕ} (k : ℕ) (t : List ℕ)
             (λ (e : a ≡ y). rw (← e) (r.new b (omega arith) z q ∙ same b z))
             (λ (e : a < y).
             r.kept (y * across + b) (λ g h. omega arith)
-            ∙ ⊎_elim (λ g. s.new y b g w z l q) (λ g. absurd (passed y e g l)) (le_or_lt m y))
+            ∙ ⊎_elim (λ g. absurd (passed y e g l)) (λ g. s.new y b g w z l q) (cases_lt y m))
             (eq-or-lt_of_le u);
         kept = λ j h. r.kept j (λ u w. h (omega arith) (omega arith)) ∙ s.kept j (λ u w. h (omega arith) w);
         rest = r.rest ∙ s.rest;
@@ -198,7 +198,7 @@ module _ (ss es ps : List ℕ) (line : Line ss es ps) where
   start_later n j h =
       let u : n + j < length (rows ss es ps) = omega (arith, length-drop n (rows ss es ps)) in
       let w : n + j < length ss = omega (arith, length_rows ss es ps) in
-      rw (get_or-drop n (rows ss es ps) j (row 0 0 0), start_rows ss es ps (n + j) u, get_d_any ss n 65535 0 (omega arith))
+      rw (get_or-drop n (rows ss es ps) j (row 0 0 0), start_rows ss es ps (n + j) u, get_or_default ss n 65535 0 (omega arith))
       (⊎_elim (λ (e : n ≡ n + j). rw (← e) (omega arith)) (λ (e : n < n + j). line.order n (n + j) e w) (eq-or-lt_of_le (omega arith)))
 
   -- a last row and what it is carried to are the same to all rows from n on
@@ -230,7 +230,7 @@ module _ (ss es ps : List ℕ) (line : Line ss es ps) where
     pub holds_step : (s next : ℕ) (t' : List ℕ) → next ≡ start_at ss n → s ≡ at ss k → StageMade (Live es s) (new_cell es (at ps k) s next k t) k 0 t t' → Holds ss es ps k t'
     unfolding best
     holds_step s next t' q f made a b ha hb la lb =
-        let g : start_at ss k ≡ s = get_d_any ss k 65535 0 h ∙ sym f in
+        let g : start_at ss k ≡ s = get_or_default ss k 65535 0 h ∙ sym f in
         made.new a b (omega arith) ha hb (rw g at la) (rw g at lb)
         ∙ rw (drop_rows ss es ps k h line.each_end line.each_perm, q, read a b (omega arith) (omega arith), read (k + 1) b (omega arith) (omega arith), read a (k + 1) (omega arith) (omega arith), e, add-one, f)
 

@@ -16,7 +16,8 @@ const ACROSS: usize = basics::MAX_ROWS + 1;
 // The bytes of all cells.
 const CELL_BYTES: usize = ACROSS * ACROSS;
 
-// The value of leaving a row out, where it may be.
+// The value of leaving a row out, where it may be; 0 where it may not. A value is a byte with 0 for none, and no Option, here and below: it is kept in a cell of one byte
+// of the lent working space.
 fn out_value(may: bool, v: u8) -> u8
     ensures { result ≡ when may v }
 {

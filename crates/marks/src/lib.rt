@@ -1,4 +1,4 @@
-// What a row's mark says: whether the row must be heard, and by which receiver alone.
+// What a row's mark says: whether the row must be heard, and by which receiver alone. A mark is a byte and no enum: C lends lists of bytes, of which those above 5 are refused.
 #![tactic(auto)]
 
 ghost use Rattle.std.specs.Prelude.{◌≡◌};

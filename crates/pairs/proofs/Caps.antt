@@ -11,9 +11,6 @@ use Rattle.pairs.specs.Capped.{Most, Capped}
 use Rattle.pairs.specs.Pairs.{Within}
 
 module _ {C : List ℕ → Type 0} where
-  pub most_none : ((l : List ℕ) → C l → ⊥) → Most C 0
-  most_none f = record { reached = λ h. absurd (omega arith); bound = λ l c. absurd (f l c) }
-
   pub capped_none : {cap : ℕ} → ((l : List ℕ) → C l → ⊥) → Capped cap C 0
   capped_none f = record { within = omega arith; reached = λ h. absurd (omega arith); bound = λ h l c. absurd (f l c) }
 

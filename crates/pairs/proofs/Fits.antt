@@ -10,6 +10,7 @@ use native.Mathlib.Omega.{arith}
 use borrow.Author.Tests.{eqb-true, eqb-false, le-leb, lt-leb}
 use lib.Dec.{leb, eqb}
 use lib.ListN.{length}
+use Rattle.std.proofs.lemmas.Bool.{true_from_ne_false, false_from_ne_true}
 use Rattle.basics.specs.Lists.{at}
 use Rattle.labels.proofs.Permissions.{permits_label}
 use Rattle.labels.specs.Permission.{permits}
@@ -41,14 +42,6 @@ module _ (p e p' e' : ℕ) where
   rest_rest : p < e → p' < e' → clear p e p' e' ≡ (leb e p' || leb e' p)
   unfolding clear
   rest_rest h k = simp (lt-leb e p h, lt-leb e' p' k)
-
-not_false : (b : Bool) → (b ≡ false → ⊥) → b ≡ true
-not_false true f = refl
-not_false false f = absurd (f refl)
-
-not_true : (b : Bool) → (b ≡ true → ⊥) → b ≡ false
-not_true true f = absurd (f refl)
-not_true false f = refl
 
 -- ---- the crossing row of a receiver
 
@@ -137,7 +130,7 @@ module _ (positions ends qs : List ℕ) (m : ℕ) (crossing : Crossing positions
         go (yes a) =
             rw (lt-leb m w a)
             (sym (front_rest _ _ _ _ (crossing.front w a) (crossing.rest k h b))
-            ∙ not_false _ (A.apart w k (omega (arith, crossing.within)) b (omega arith) (λ z. n (sym (H.has a) ∙ z)) (H.has a ∙ sym e)))
+            ∙ true_from_ne_false _ (A.apart w k (omega (arith, crossing.within)) b (omega arith) (λ z. n (sym (H.has a) ∙ z)) (H.has a ∙ sym e)))
         go (no a) = rw (le-leb m w (omega arith))
 
     module _ (w1 w2 : ℕ) (H1 : Holder l m 1 w1) (H2 : Holder l m 2 w2) where
@@ -177,7 +170,7 @@ module _ (positions ends qs : List ℕ) (m : ℕ) (crossing : Crossing positions
             fit = record {
               each = A.each;
               allowed = λ k h. (left_iff positions ends m w1 w2 k (at qs k) (at l k)).1 (A.allowed k h, leaves_it k h);
-              apart = λ i j hi hj d n e c. A.apart i j hi hj d n e (not_true _ (λ t. c.2 (clear_or i j c.0 c.1 hi hj t)));
+              apart = λ i j hi hj d n e c. A.apart i j hi hj d n e (false_from_ne_true _ (λ t. c.2 (clear_or i j c.0 c.1 hi hj t)));
             };
           }
         where

@@ -9,7 +9,8 @@ use native.Mathlib.Omega.{arith}
 use lib.ListN.{length, drop, get_or}
 use lib.Seq.{get_or-drop}
 use Rattle.basics.specs.Lists.{at}
-use Rattle.basics.proofs.Tests.{and_iff, ltb_iff, eqb_iff}
+use Rattle.std.proofs.lemmas.Bool.Decides.{Decides-ltb, Decides-eqb}
+use Rattle.basics.proofs.Tests.{and_iff}
 use Rattle.line.specs.Line.{Line, best, rows}
 use Rattle.line.specs.Cells.{low_at, cell_bytes}
 use Rattle.pairs.specs.Capped.{Capped, Ready}
@@ -22,7 +23,7 @@ use Rattle.pairs.proofs.Value.{line, pair_most, best_le}
 -- ---- a pair without labels
 
 twice_iff : (m w1 w2 : ℕ) → (twice m w1 w2 ≡ true → (w1 < m) × (w1 ≡ w2)) × ((w1 < m) × (w1 ≡ w2) → twice m w1 w2 ≡ true)
-twice_iff m w1 w2 = and_iff (ltb_iff w1 m) (eqb_iff w1 w2)
+twice_iff m w1 w2 = and_iff (Decides-ltb w1 m) (Decides-eqb w1 w2)
 
 module _ {positions ends perms : List ℕ} {m w1 w2 : ℕ} where
   pub twice_none : twice m w1 w2 ≡ true → (l : List ℕ) → PairFit positions ends perms m w1 w2 l → ⊥

@@ -20,7 +20,7 @@ pub struct OrderedRows<'a> {
     ghost within: { m ≤ length positions.now },
 }
 
-// The crossing row that each receiver hears, m where it hears none.
+// The crossing row that each receiver hears, m where it hears none: no Option is plainer, since the search counts down from m, and none is tried first.
 #[derive(Clone, Copy)]
 struct Pair {
     w1: usize,
@@ -135,7 +135,7 @@ impl<'a> OrderedRows<'a> {
 
     // The most that labels hear which obey every permission and leave no two meeting arcs on one receiver, and one more, as far as the cap; 0 where there are none.
     // A pair of no rows most often reaches the cap, which ends the search, so it is tried first.
-    // The lists that are written stay parameters: of a struct of `&mut` lists each contract would also have to say that it lends the same lists as before, and as long ones.
+    // The lists that are written stay parameters; a struct was tried: of a struct of `&mut` lists each contract would also have to say that it lends the same lists as before, and as long ones.
     pub fn capped_best(self, perms: &[u8], cap: u8, left: &mut [u8], space: &mut [u8]) -> u8
         requires { Ready self.positions.now self.ends.now self.order.now perms.now self.m cap left.old space.old }
         ensures { Capped cap (Cleared self.entry.positions.now self.entry.ends.now (gathered self.entry.order.now perms.now)) result × (drop cell_bytes space.new ≡ drop cell_bytes space.old) }

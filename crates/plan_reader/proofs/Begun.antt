@@ -1,114 +1,98 @@
--- Receivers and heads as items: what is known of the bytes where an item is a RECEIVER, a ROUND or a RUN, and where it is none.
-use Prim.Native.Nat.{ℕ, ◌+◌}
+-- Receivers and heads as items: what is known of bytes where the first item is a RECEIVER, a ROUND or a RUN, and where it is none.
+use Prim.Native.Nat.{ℕ}
 use mathlib.Core.Path.{◌≡◌, refl, sym, ap, ◌∙◌}
 use mathlib.Core.Logic.{◌≢◌}
-use mathlib.Core.Bool.{Bool, true, false, cond, ◌&&◌, ◌||◌, and-false, or-true, and-eq-true_iff}
+use mathlib.Core.Bool.{Bool, true, false, ◌&&◌, ◌||◌, or-true, and-eq-true_iff}
 use mathlib.Core.List.{List, []}
-use native.Mathlib.Nat.{zero-add}
 use native.Mathlib.Omega.{arith}
-use borrow.Author.Tests.{ne_eqb}
 use lib.Dec.{eqb}
-use lib.ListN.{get_or, drop}
-use lib.Seq.{drop-drop}
+use lib.ListN.{get_or}
 use Rattle.window.specs.declared.Kind.{Kind}
 use Rattle.window.specs.declared.Kind.TheVariants.{Round, Run}
-use Rattle.tape.specs.Commands.{ROUND, RUN, RECEIVER, LISTEN, STOP, operand_bytes, begins, stop_last, after, past}
+use Rattle.tape.specs.Commands.{ROUND, RUN, RECEIVER, LISTEN, STOP, begins, stop_last, after}
 use Rattle.tape.specs.Words.{word_at}
-use Rattle.tape.proofs.Heads.{begins_iff}
 use Rattle.plan_tape.specs.PlanTapes.{kind_command}
 use Rattle.plan_tape.specs.Stated.{listens_in, after_listens, part_in, after_part, kind_in, ticks_at, after_head, stated, Listen}
-use Rattle.std.specs.Prelude.{Option, Some, None}
+use Rattle.std.specs.Prelude.{Option, Some}
+use Rattle.std.specs.Option.{option_eq}
 use Rattle.plan_reader.specs.declared.Head.{Head as Begin}
 use Rattle.plan_reader.specs.declared.Item.{Item}
 use Rattle.plan_reader.specs.declared.Item.TheVariants as item
-use Rattle.plan_reader.specs.Items.{head_of, listen_at, receiver_at, head_at, item_of, item_at}
-use Rattle.plan_reader.specs.Judged.{is_receiver, place_after, is_formed, are_parts, is_plan_tape}
+use Rattle.plan_reader.specs.contracts.ItemPartialEq.TheImpl as ItemEq
+use Rattle.plan_reader.specs.Items.{head_of, head_at, item_of, after_item}
+use Rattle.plan_reader.specs.Judged.{is_receiver, is_formed, are_parts, is_plan_tape}
+use Rattle.plan_reader.proofs.Items.{one_command, First, listen_first, receiver_first, stop_first, head_first, none_first, first}
 
--- one byte is one command
-one_command : (c d : ℕ) (s : List ℕ) → c ≢ d → begins c s ≡ true → begins d s ≡ false
-unfolding begins
-one_command c d s n e = rw (ne_eqb (get_or s 0 0) d (λ q. n (sym ((begins_iff c s).0 e).1 ∙ q)), and-false)
+-- ---- RECEIVER
 
-module _ (s : List ℕ) (at : ℕ) where
-  item_receiver : begins RECEIVER s ≡ true → item_of s at ≡ Some (receiver_at s at)
-  unfolding item_of
-  item_receiver e = rw (one_command RECEIVER LISTEN s (λ q. omega (arith, q)) e, e) refl
+-- the test whether an item is RECEIVER with a number
+abbrev is_item : Option Item → ℕ → Bool
+is_item x number = option_eq ItemEq.eq-value.it x (Some (item.Receiver number))
 
-  item_head : (kind : Kind) → begins (kind_command kind) s ≡ true → item_of s at ≡ Some (head_at kind s at)
-  unfolding item_of
-  item_head Round e =
-      rw (one_command ROUND LISTEN s (λ q. omega (arith, q)) e, one_command ROUND RECEIVER s (λ q. omega (arith, q)) e, one_command ROUND STOP s (λ q. omega (arith, q)) e, e) refl
-  item_head Run e =
-      rw (
-        one_command RUN LISTEN s (λ q. omega (arith, q)) e,
-        one_command RUN RECEIVER s (λ q. omega (arith, q)) e,
-        one_command RUN STOP s (λ q. omega (arith, q)) e,
-        one_command RUN ROUND s (λ q. omega (arith, q)) e,
-        e,
-      ) refl
+module _ (s : List ℕ) where
+  -- a RECEIVER stands first: its LISTENs stand after it
+  pub under : begins RECEIVER s ≡ true → (part_in s ≡ listens_in (after_item s)) × (after_part s ≡ after_listens (after_item s))
+  unfolding part_in after_part after_item
+  under b = let l = one_command RECEIVER LISTEN s (λ q. omega (arith, q)) b in (rw (b, l) refl, rw (b, l) refl)
 
-  chain : Bool → Bool → Bool → Bool → Bool → Option Item
-  chain l r p o u =
-      cond l (Some (listen_at s at))
-      (cond r (Some (receiver_at s at))
-      (cond p (Some (item.Stop (past STOP at)))
-      (cond o (Some (head_at Round s at))
-      (cond u (Some (head_at Run s at)) None))))
+  -- no RECEIVER stands first: nothing stands under one, and all is left
+  pub not_under : begins RECEIVER s ≡ false → (part_in s ≡ []) × (after_part s ≡ s)
+  unfolding part_in after_part
+  not_under b = (rw b refl, rw b refl)
 
-  -- a RECEIVER is read where one stands
-  receiver_stands : (number next : ℕ) → item_of s at ≡ Some (item.Receiver number next) → begins RECEIVER s ≡ true
-  unfolding item_of chain
-  receiver_stands number next = go (begins LISTEN s) (begins RECEIVER s) (begins STOP s) (begins ROUND s) (begins RUN s)
+  pub receiver_begins : (number : ℕ) → item_of s ≡ Some (item.Receiver number) → begins RECEIVER s ≡ true
+  receiver_begins number same = go (first s)
     where
-      go : (l r p o u : Bool) → chain l r p o u ≡ Some (item.Receiver number next) → r ≡ true
-      go true r p o u z = cc z
-      go false true p o u z = refl
-      go false false true o u z = cc z
-      go false false false true u z = cc z
-      go false false false false true z = cc z
-      go false false false false false z = cc z
+      go : First s → begins RECEIVER s ≡ true
+      go (receiver_first b i a) = b
+      go (listen_first b i a) = absurd (cc (i, same))
+      go (stop_first b i a) = absurd (cc (i, same))
+      go (head_first kind b i a) = absurd (cc (i, same))
+      go (none_first l r o u i a) = absurd (cc (i, same))
 
-  -- and a ROUND or a RUN
-  head_stands : (head : Begin) (next : ℕ) → item_of s at ≡ Some (item.Head head next) → (kind : Kind) × (begins (kind_command kind) s ≡ true)
-  unfolding item_of chain
-  head_stands head next = go (begins LISTEN s) (begins RECEIVER s) (begins STOP s) (begins ROUND s) refl (begins RUN s) refl
+  no_receiver_begins : ((number : ℕ) → item_of s ≡ Some (item.Receiver number) → ⊥) → begins RECEIVER s ≡ false
+  no_receiver_begins not = go (first s)
     where
-      go : (l r p o : Bool) → begins ROUND s ≡ o → (u : Bool) → begins RUN s ≡ u → chain l r p o u ≡ Some (item.Head head next) → (kind : Kind) × (begins (kind_command kind) s ≡ true)
-      go true r p o e u f z = absurd (cc z)
-      go false true p o e u f z = absurd (cc z)
-      go false false true o e u f z = absurd (cc z)
-      go false false false true e u f z = (Round, e)
-      go false false false false e true f z = (Run, f)
-      go false false false false e false f z = absurd (cc z)
+      go : First s → begins RECEIVER s ≡ false
+      go (receiver_first b i a) = absurd (not _ i)
+      go (listen_first b i a) = one_command LISTEN RECEIVER s (λ q. omega (arith, q)) b
+      go (stop_first b i a) = one_command STOP RECEIVER s (λ q. omega (arith, q)) b
+      go (head_first Round b i a) = one_command ROUND RECEIVER s (λ q. omega (arith, q)) b
+      go (head_first Run b i a) = one_command RUN RECEIVER s (λ q. omega (arith, q)) b
+      go (none_first l r o u i a) = r
 
-module _ (s : List ℕ) (at : ℕ) where
-  -- A RECEIVER stands at the place.
-  pub record ReceiverAt (number next : ℕ) : Type 0 where
-    pub begun : begins RECEIVER (drop at s) ≡ true
-    pub number_is : get_or (drop at s) 1 0 ≡ number
-    pub next_is : past RECEIVER at ≡ next
+  pub no_receiver : ((number : ℕ) → item_of s ≡ Some (item.Receiver number) → ⊥) → (part_in s ≡ []) × (after_part s ≡ s)
+  no_receiver not = not_under (no_receiver_begins not)
 
-  pub receiver_at_of : (number next : ℕ) → item_at s at ≡ Some (item.Receiver number next) → ReceiverAt number next
-  receiver_at_of number next same =
-      let b = receiver_stands (drop at s) at number next same in
-      let made : Some (receiver_at (drop at s) at) ≡ Some (item.Receiver number next) = sym (item_receiver (drop at s) at b) ∙ same in
-      record { begun = b; number_is = cc made; next_is = cc made }
-
-  pub no_receiver : ((number next : ℕ) → item_at s at ≡ Some (item.Receiver number next) → ⊥) → begins RECEIVER (drop at s) ≡ false
-  no_receiver none = go (begins RECEIVER (drop at s)) refl
+  pub is_receiver_item : (number : ℕ) → is_item (item_of s) number ≡ is_receiver number s
+  unfolding is_receiver
+  is_receiver_item number = go (first s)
     where
-      go : (b : Bool) → begins RECEIVER (drop at s) ≡ b → begins RECEIVER (drop at s) ≡ false
-      go false f = f
-      go true f = absurd (none _ _ (item_receiver (drop at s) at f))
+      go : First s → is_item (item_of s) number ≡ is_receiver number s
+      go (receiver_first b i a) = rw (i, b) refl
+      go (listen_first b i a) = rw (i, one_command LISTEN RECEIVER s (λ q. omega (arith, q)) b) refl
+      go (stop_first b i a) = rw (i, one_command STOP RECEIVER s (λ q. omega (arith, q)) b) refl
+      go (head_first Round b i a) = rw (i, one_command ROUND RECEIVER s (λ q. omega (arith, q)) b) refl
+      go (head_first Run b i a) = rw (i, one_command RUN RECEIVER s (λ q. omega (arith, q)) b) refl
+      go (none_first l r o u i a) = rw (i, r) refl
 
--- the head of a tape
+  -- a RECEIVER with this number, which is taken, and then its LISTENs
+  pub part_taken : (number : ℕ) {one two : List ℕ} {listens : List Listen} → is_receiver number s ≡ true
+      → one ≡ after_item s → listens ≡ listens_in one → two ≡ after_listens one → (part_in s ≡ listens) × (after_part s ≡ two)
+  unfolding is_receiver
+  part_taken number e o l t =
+      let u = under ((and-eq-true_iff (begins RECEIVER s) (eqb (get_or s 1 0) number)).0 e).0 in
+      (u.0 ∙ ap listens_in (sym o) ∙ sym l, u.1 ∙ ap after_listens (sym o) ∙ sym t)
+
+-- ---- ROUND and RUN
+
 module _ (s : List ℕ) where
   -- ROUND or RUN begins the tape.
-  pub record HeadIn (head : Begin) (next : ℕ) : Type 0 where
+  pub record HeadIn (head : Begin) : Type 0 where
     pub begun : (begins ROUND s || begins RUN s) ≡ true
     pub kind_is : kind_in s ≡ head.kind
     pub ticks_is : ticks_at s ≡ head.ticks
-    pub next_is : drop next s ≡ after_head s
+    pub rest_is : after_item s ≡ after_head s
 
   kind_in_begun : (kind : Kind) → begins (kind_command kind) s ≡ true → kind_in s ≡ kind
   unfolding kind_in
@@ -119,71 +103,38 @@ module _ (s : List ℕ) where
   either Round b = rw b refl
   either Run b = rw b (or-true (begins ROUND s))
 
-  pub head_in : (head : Begin) (next : ℕ) → item_at s 0 ≡ Some (item.Head head next) → HeadIn head next
+  pub head_taken : (h : Begin) → item_of s ≡ Some (item.Head h) → HeadIn h
   unfolding ticks_at after_head
-  head_in head next same =
-      let b = head_stands s 0 head next same in
-      let made : Some (head_at b.0 s 0) ≡ Some (item.Head head next) = sym (item_head s 0 b.0 b.1) ∙ same in
-      let read : head_of b.0 (word_at s 1) ≡ head = cc made in
-      let n : past (kind_command b.0) 0 ≡ next = cc made in
-      record {
-        begun = either b.0 b.1;
-        kind_is = kind_in_begun b.0 b.1 ∙ ap (λ (h : Begin). h.kind) read;
-        ticks_is = rw (either b.0 b.1) (ap (λ (h : Begin). h.ticks) read);
-        next_is = ap (λ (n : ℕ). drop n s) (sym n ∙ zero-add (1 + operand_bytes (kind_command b.0))) ∙ ap (λ (d : Kind). after (kind_command d) s) (sym (kind_in_begun b.0 b.1));
-      }
-
-  pub no_head : ((head : Begin) (next : ℕ) → item_at s 0 ≡ Some (item.Head head next) → ⊥) → (begins ROUND s || begins RUN s) ≡ false
-  no_head none = go (begins ROUND s) refl (begins RUN s) refl
+  head_taken h same = go (first s)
     where
-      go : (o : Bool) → begins ROUND s ≡ o → (u : Bool) → begins RUN s ≡ u → (o || u) ≡ false
-      go true f u g = absurd (none _ _ (item_head s 0 Round f))
-      go false f true g = absurd (none _ _ (item_head s 0 Run g))
-      go false f false g = refl
+      go : First s → HeadIn h
+      go (head_first kind b i a) =
+          let made : Some (head_at kind s) ≡ Some (item.Head h) = cc (i, same) in
+          let read : head_of kind (word_at s 1) ≡ h = cc made in
+          let is = kind_in_begun kind b in
+          record {
+            begun = either kind b;
+            kind_is = is ∙ ap (λ (h : Begin). h.kind) read;
+            ticks_is = rw (either kind b) (ap (λ (h : Begin). h.ticks) read);
+            rest_is = a ∙ ap (λ (d : Kind). after (kind_command d) s) (sym is);
+          }
+      go (receiver_first b i a) = absurd (cc (i, same))
+      go (listen_first b i a) = absurd (cc (i, same))
+      go (stop_first b i a) = absurd (cc (i, same))
+      go (none_first l r o u i a) = absurd (cc (i, same))
 
--- ---- the LISTENs under a RECEIVER
+  no_command : (c : ℕ) → c ≢ ROUND → c ≢ RUN → begins c s ≡ true → (begins ROUND s || begins RUN s) ≡ false
+  no_command c n m b = rw (one_command c ROUND s n b, one_command c RUN s m b) refl
 
-module _ (s : List ℕ) (at : ℕ) where
-  receiver_past : {next : ℕ} → past RECEIVER at ≡ next → after RECEIVER (drop at s) ≡ drop next s
-  receiver_past n = drop-drop (1 + operand_bytes RECEIVER) at s ∙ ap (λ (k : ℕ). drop k s) n
-
-  pub part_at : {next : ℕ} → begins RECEIVER (drop at s) ≡ true → past RECEIVER at ≡ next → part_in (drop at s) ≡ listens_in (drop next s)
-  unfolding part_in
-  part_at b n = rw b (ap listens_in (receiver_past n))
-
-  pub past_part : {next : ℕ} → begins RECEIVER (drop at s) ≡ true → past RECEIVER at ≡ next → after_part (drop at s) ≡ after_listens (drop next s)
-  unfolding after_part
-  past_part b n = rw b (ap after_listens (receiver_past n))
-
-pub no_part : (s : List ℕ) → begins RECEIVER s ≡ false → (part_in s ≡ []) × (after_part s ≡ s)
-unfolding part_in after_part
-no_part s b = (rw b refl, rw b refl)
-
-module _ (s : List ℕ) (number at : ℕ) where
-  -- A RECEIVER with this number stands at the place, and its LISTENs from `first` on.
-  pub record Under (first : ℕ) : Type 0 where
-    pub stands : is_receiver number (drop at s) ≡ true
-    pub part : part_in (drop at s) ≡ listens_in (drop first s)
-    pub after_part_left : after_part (drop at s) ≡ after_listens (drop first s)
-
-  pub under : (first : ℕ) → place_after number (drop at s) at ≡ Some first → Under first
-  unfolding is_receiver
-  under first = go (is_receiver number (drop at s)) refl
+  pub no_head : ((h : Begin) → item_of s ≡ Some (item.Head h) → ⊥) → (begins ROUND s || begins RUN s) ≡ false
+  no_head not = go (first s)
     where
-      go : (b : Bool) → is_receiver number (drop at s) ≡ b → cond b (Some (past RECEIVER at)) None ≡ Some first → Under first
-      go false h q = absurd (cc q)
-      go true h q =
-          let b = ((and-eq-true_iff (begins RECEIVER (drop at s)) (eqb (get_or (drop at s) 1 0) number)).0 h).0 in
-          let n : past RECEIVER at ≡ first = cc q in
-          record { stands = h; part = part_at s at b n; after_part_left = past_part s at b n }
-
-  pub not_under : place_after number (drop at s) at ≡ None → is_receiver number (drop at s) ≡ false
-  unfolding is_receiver
-  not_under = go (is_receiver number (drop at s))
-    where
-      go : (b : Bool) → cond b (Some (past RECEIVER at)) None ≡ None → b ≡ false
-      go false q = refl
-      go true q = cc q
+      go : First s → (begins ROUND s || begins RUN s) ≡ false
+      go (head_first kind b i a) = absurd (not _ i)
+      go (receiver_first b i a) = no_command RECEIVER (λ q. omega (arith, q)) (λ q. omega (arith, q)) b
+      go (listen_first b i a) = no_command LISTEN (λ q. omega (arith, q)) (λ q. omega (arith, q)) b
+      go (stop_first b i a) = no_command STOP (λ q. omega (arith, q)) (λ q. omega (arith, q)) b
+      go (none_first l r o u i a) = rw (o, u) refl
 
 -- ---- the test of a tape, from its parts
 

@@ -9,7 +9,8 @@ use native.Mathlib.Omega.{arith}
 use lib.Dec.{eqb}
 use lib.ListN.{length, get_or, drop, drop_of_length-le}
 use lib.Seq.{get_or-append-add}
-use Rattle.basics.proofs.Tests.{eqb_iff, and_iff, or_iff}
+use Rattle.std.proofs.lemmas.Bool.Decides.{Decides-eqb}
+use Rattle.basics.proofs.Tests.{and_iff, or_iff}
 use Rattle.window.specs.declared.Kind.{Kind}
 use Rattle.window.specs.declared.Kind.TheVariants.{Round, Run}
 use Rattle.tape.specs.Commands.{ROUND, RUN, RECEIVER, LISTEN, STOP, operand_bytes, begins, stop_last, after}
@@ -40,13 +41,13 @@ listens_split (x ∷ y ∷ a ∷ b ∷ c ∷ d ∷ l) h = go (eqb x LISTEN) refl
     go : (t : Bool) → eqb x LISTEN ≡ t → l ≡ listen_bytes (listens_in l) ++ after_listens l
         → x ∷ y ∷ a ∷ b ∷ c ∷ d ∷ l
         ≡ listen_bytes (cond t (listen_of y (joined a b) (joined c d) ∷ listens_in l) []) ++ cond t (after_listens l) (x ∷ y ∷ a ∷ b ∷ c ∷ d ∷ l)
-    go true e q = λ i. (eqb_iff x LISTEN).0 e i ∷ y ∷ high_joined a b (h 3) i ∷ low_joined a b (h 3) i ∷ high_joined c d (h 5) i ∷ low_joined c d (h 5) i ∷ q i
+    go true e q = λ i. (Decides-eqb x LISTEN).0 e i ∷ y ∷ high_joined a b (h 3) i ∷ low_joined a b (h 3) i ∷ high_joined c d (h 5) i ∷ low_joined c d (h 5) i ∷ q i
     go false e q = refl
 
 part_split : (number : ℕ) (s : List ℕ) → Bytes s → is_receiver number s ≡ true → s ≡ part_bytes number (part_in s) ++ after_part s
 unfolding is_receiver part_in after_part operand_bytes
 part_split number s h e =
-    let f = (and_iff Iff.rfl (eqb_iff (get_or s 1 0) number)).0 e in
+    let f = (and_iff Iff.rfl (Decides-eqb (get_or s 1 0) number)).0 e in
     let b = (begins_iff RECEIVER s).0 f.0 in
     let first = spread s 0 2 (omega (arith, b.0)) in
     let rest = listens_split (drop 2 s) (bytes_rest s (get_or s 0 0 ∷ get_or s 1 0 ∷ []) (drop 2 s) first h) in
@@ -73,7 +74,7 @@ head_split s h e = go (begins RUN s) refl
 stop_split : (s : List ℕ) → stop_last s ≡ true → s ≡ STOP ∷ []
 unfolding operand_bytes
 stop_split s e =
-    let f = (and_iff (begins_iff STOP s) (eqb_iff (length s) 1)).0 e in
+    let f = (and_iff (begins_iff STOP s) (Decides-eqb (length s) 1)).0 e in
     spread s 0 1 (omega (arith, f.1)) ∙ (λ i. f.0.1 i ∷ drop_of_length-le s {i = 1} (omega (arith, f.1)) i)
 
 -- what stands where, in turn
@@ -115,7 +116,7 @@ formed_bytes tape h e =
 
 receiver_first : (number : ℕ) (rest : List ℕ) → is_receiver number (RECEIVER ∷ number ∷ rest) ≡ true
 unfolding is_receiver operand_bytes
-receiver_first number rest = (and_iff (begins_iff RECEIVER (RECEIVER ∷ number ∷ rest)) (eqb_iff number number)).1 ((omega arith, refl), refl)
+receiver_first number rest = (and_iff (begins_iff RECEIVER (RECEIVER ∷ number ∷ rest)) (Decides-eqb number number)).1 ((omega arith, refl), refl)
 
 head_first : (kind : Kind) (R : ℕ) (rest : List ℕ) → (begins ROUND (kind_part kind R ++ rest) || begins RUN (kind_part kind R ++ rest)) ≡ true
 unfolding operand_bytes

@@ -1,62 +1,116 @@
--- Items and their parts: the operands of a command that stands at a place lie on the tape, and are those of the bytes from the place on; an item of one command is none of another.
-use Prim.Native.Nat.{ℕ, ◌+◌, ◌<◌}
-use mathlib.Core.Path.{◌≡◌, sym}
-use mathlib.Core.Bool.{true}
-use mathlib.Core.Logic.{⊎_elim}
+-- What stands first on bytes, case by case: which item it is and which bytes follow it.
+use Prim.Native.Nat.{ℕ, ◌+◌, ◌-◌, ◌≤◌, ◌<◌, min}
+use mathlib.Core.Path.{◌≡◌, refl, sym, ap, ◌∙◌}
+use mathlib.Core.Logic.{◌≢◌, ⊎_elim}
+use mathlib.Core.Bool.{Bool, true, false, and-false}
 use mathlib.Core.List.{List, [], ◌∷◌}
 use native.Mathlib.Omega.{arith}
+use borrow.Author.Tests.{ne_eqb}
 use types.Run.{OneOf}
 use denote.Enum.Declared.{tag_of}
 use lib.ListN.{length, get_or, drop}
-use lib.Seq.{get_or-drop}
+use lib.Seq.{drop-drop}
 use Rattle.window.specs.declared.Kind.{Kind}
 use Rattle.window.specs.declared.Kind.TheVariants.{Round, Run}
-use Rattle.tape.specs.Commands.{RECEIVER, LISTEN, operand_bytes, begins}
-use Rattle.tape.proofs.Heads.{begins_at}
+use Rattle.tape.specs.Commands.{ROUND, RUN, RECEIVER, LISTEN, STOP, operand_bytes, begins, after}
+use Rattle.tape.proofs.Heads.{begins_iff}
 use Rattle.plan_tape.specs.PlanTapes.{kind_command}
-use Rattle.plan_reader.specs.declared.Head.{Head}
-use Rattle.plan_reader.specs.declared.Listen.{Listen}
+use Rattle.std.specs.Prelude.{Some, None}
+use Rattle.std.specs.Borrow.{Bor}
+use Rattle.std.proofs.lemmas.List.{length-drop, drop_min}
+use Rattle.plan_reader.specs.declared.Head.{Head as Begin}
+use Rattle.plan_reader.specs.declared.PlanReader.{PlanReader}
 use Rattle.plan_reader.specs.declared.Item.{Item}
 use Rattle.plan_reader.specs.declared.Item.TheVariants as item
 use Rattle.plan_reader.specs.contracts.Item as ItemType
+use Rattle.plan_reader.specs.Items.{listen_at, receiver_at, head_at, item_of, after_item, left}
 
-module _ (s : List ℕ) (at : ℕ) where
-  pub listen_whole : begins LISTEN (drop at s) ≡ true → at + 5 < length s
+-- one byte is one command
+pub one_command : (c d : ℕ) (s : List ℕ) → c ≢ d → begins c s ≡ true → begins d s ≡ false
+unfolding begins
+one_command c d s n e = rw (ne_eqb (get_or s 0 0) d (λ q. n (sym ((begins_iff c s).0 e).1 ∙ q)), and-false)
+
+-- ---- the operands of a command lie inside
+
+module _ (s : List ℕ) where
+  pub listen_whole : begins LISTEN s ≡ true → 5 < length s
   unfolding operand_bytes
-  listen_whole e = (begins_at s at LISTEN e).0
+  listen_whole b = ((begins_iff LISTEN s).0 b).0
 
-  pub receiver_whole : begins RECEIVER (drop at s) ≡ true → at + 1 < length s
+  pub receiver_whole : begins RECEIVER s ≡ true → 1 < length s
   unfolding operand_bytes
-  receiver_whole e = (begins_at s at RECEIVER e).0
+  receiver_whole b = ((begins_iff RECEIVER s).0 b).0
 
-  pub head_whole : (kind : Kind) → begins (kind_command kind) (drop at s) ≡ true → at + 2 < length s
+  pub head_whole : (kind : Kind) → begins (kind_command kind) s ≡ true → 2 < length s
   unfolding operand_bytes
-  head_whole Round e = (begins_at s at (kind_command Round) e).0
-  head_whole Run e = (begins_at s at (kind_command Run) e).0
+  head_whole Round b = ((begins_iff ROUND s).0 b).0
+  head_whole Run b = ((begins_iff RUN s).0 b).0
 
-  -- the byte i places on
-  pub byte_at : (i : ℕ) → get_or s (at + i) 0 ≡ get_or (drop at s) i 0
-  byte_at i = sym (get_or-drop at s i 0)
+-- ---- what stands first
+
+pub data First (s : List ℕ) : Type 0 where
+  listen_first : begins LISTEN s ≡ true → item_of s ≡ Some (item.Listen (listen_at s)) → after_item s ≡ after LISTEN s → First s
+  receiver_first : begins RECEIVER s ≡ true → item_of s ≡ Some (receiver_at s) → after_item s ≡ after RECEIVER s → First s
+  stop_first : begins STOP s ≡ true → item_of s ≡ Some item.Stop → after_item s ≡ after STOP s → First s
+  head_first : (kind : Kind) → begins (kind_command kind) s ≡ true → item_of s ≡ Some (head_at kind s) → after_item s ≡ after (kind_command kind) s → First s
+  none_first : begins LISTEN s ≡ false → begins RECEIVER s ≡ false → begins ROUND s ≡ false → begins RUN s ≡ false → item_of s ≡ None → after_item s ≡ s → First s
+
+pub first : (s : List ℕ) → First s
+unfolding item_of after_item
+first s = go (begins LISTEN s) refl (begins RECEIVER s) refl (begins STOP s) refl (begins ROUND s) refl (begins RUN s) refl
+  where
+    go : (l : Bool) → begins LISTEN s ≡ l → (r : Bool) → begins RECEIVER s ≡ r → (p : Bool) → begins STOP s ≡ p → (o : Bool) → begins ROUND s ≡ o → (u : Bool) → begins RUN s ≡ u → First s
+    go true a r b p c o d u e = listen_first a (rw a refl) (rw a refl)
+    go false a true b p c o d u e = receiver_first b (rw (a, b) refl) (rw (a, b) refl)
+    go false a false b true c o d u e = stop_first c (rw (a, b, c) refl) (rw (a, b, c) refl)
+    go false a false b false c true d u e = head_first Round d (rw (a, b, c, d) refl) (rw (a, b, c, d) refl)
+    go false a false b false c false d true e = head_first Run e (rw (a, b, c, d, e) refl) (rw (a, b, c, d, e) refl)
+    go false a false b false c false d false e = none_first a b d e (rw (a, b, c, d, e) refl) (rw (a, b, c, d, e) refl)
+
+-- a reader at the beginning of a tape has all of it left
+pub all_left : {r : PlanReader} {tape : Bor (List ℕ)} → (r.tape ≡ tape) × (r.at ≡ 0) → left r ≡ tape.now
+all_left e = λ i. drop (e.1 i) (e.0 i).now
+
+-- ---- the position after an item that is taken: further on by the bytes that are no longer left
+
+module _ (bytes : List ℕ) {rest : List ℕ} (n : ℕ) (e : rest ≡ drop n bytes) where
+  pub rest_fits : length rest ≤ length bytes
+  rest_fits = omega (arith, ap length e, length-drop n bytes)
+
+  pub rest_stands : (tape : List ℕ) (at : ℕ) → bytes ≡ drop at tape → drop (at + (length bytes - length rest)) tape ≡ rest
+  rest_stands tape at l =
+      let taken = length bytes - length rest in
+      let count : taken ≡ min n (length bytes) = omega (arith, ap length e, length-drop n bytes) in
+      sym (drop-drop taken at tape) ∙ ap (drop taken) (sym l) ∙ ap (λ k. drop k bytes) count ∙ drop_min n bytes ∙ sym e
+
+-- what is left after the first item is what stands some places further on
+passed : (s : List ℕ) → First s → (n : ℕ) × (after_item s ≡ drop n s)
+passed s (listen_first b i a) = (1 + operand_bytes LISTEN, a)
+passed s (receiver_first b i a) = (1 + operand_bytes RECEIVER, a)
+passed s (stop_first b i a) = (1 + operand_bytes STOP, a)
+passed s (head_first kind b i a) = (1 + operand_bytes (kind_command kind), a)
+passed s (none_first l r o u i a) = (0, a)
+
+module _ (bytes : List ℕ) {rest : List ℕ} (e : after_item bytes ≡ rest) where
+  pub item_fits : length rest ≤ length bytes
+  item_fits = let p = passed bytes (first bytes) in rest_fits bytes p.0 (sym e ∙ p.1)
+
+  pub item_stands : (tape : List ℕ) (at : ℕ) → bytes ≡ drop at tape → drop (at + (length bytes - length rest)) tape ≡ after_item bytes
+  item_stands tape at l = let p = passed bytes (first bytes) in rest_stands bytes p.0 (sym e ∙ p.1) tape at l ∙ sym e
 
 -- ---- an item that is another command, by the number of its variant
 
 abbrev tag : Item → ℕ
 tag = tag_of ItemType.the_type
 
-pub not_head : {x : Item} → OneOf (1 ∷ 2 ∷ 3 ∷ []) (tag x) → (head : Head) (next : ℕ) → x ≡ item.Head head next → ⊥
-not_head h head next e = none (rw e at h)
+pub not_head : {x : Item} → OneOf (1 ∷ 2 ∷ 3 ∷ []) (tag x) → (head : Begin) → x ≡ item.Head head → ⊥
+not_head h head e = none (rw e at h)
   where
     none : OneOf (1 ∷ 2 ∷ 3 ∷ []) 0 → ⊥
     none = ⊎_elim (λ z. omega (arith, z)) (⊎_elim (λ z. omega (arith, z)) (λ z. omega (arith, z)))
 
-pub not_receiver : {x : Item} → OneOf (0 ∷ 2 ∷ 3 ∷ []) (tag x) → (number next : ℕ) → x ≡ item.Receiver number next → ⊥
-not_receiver h number next e = none (rw e at h)
+pub not_receiver : {x : Item} → OneOf (0 ∷ 2 ∷ 3 ∷ []) (tag x) → (number : ℕ) → x ≡ item.Receiver number → ⊥
+not_receiver h number e = none (rw e at h)
   where
     none : OneOf (0 ∷ 2 ∷ 3 ∷ []) 1 → ⊥
-    none = ⊎_elim (λ z. omega (arith, z)) (⊎_elim (λ z. omega (arith, z)) (λ z. omega (arith, z)))
-
-pub not_listen : {x : Item} → OneOf (0 ∷ 1 ∷ 3 ∷ []) (tag x) → (w : Listen) (next : ℕ) → x ≡ item.Listen w next → ⊥
-not_listen h w next e = none (rw e at h)
-  where
-    none : OneOf (0 ∷ 1 ∷ 3 ∷ []) 2 → ⊥
     none = ⊎_elim (λ z. omega (arith, z)) (⊎_elim (λ z. omega (arith, z)) (λ z. omega (arith, z)))

@@ -9,7 +9,8 @@ use mathlib.Core.List.{List, [], ◌∷◌, Memᴰ}
 use native.Mathlib.Omega.{arith}
 use lib.Dec.{leb}
 use Rattle.basics.specs.Limits.{max_rows}
-use Rattle.basics.proofs.Tests.{leb_iff, ltb_iff, eqb_iff, and_iff, not_iff}
+use Rattle.std.proofs.lemmas.Bool.Decides.{Decides-ltb, Decides-eqb}
+use Rattle.basics.proofs.Tests.{leb_iff, and_iff, not_iff}
 use Rattle.window.specs.declared.Kind.{Kind}
 use Rattle.window.specs.Windows.{Window, Overlap}
 use Rattle.window.proofs.Meaning.{window_iff, overlaps_iff}
@@ -59,11 +60,11 @@ module _ (kind : Kind) (R : ℕ) where
       tests : (is_before w w' ≡ true) ↔ (((w.start < w'.start) × (Overlap kind R w.start w.end w'.start w'.end → ⊥)) × (w.row ≢ w'.row))
       tests =
           and_iff
-          (and_iff (ltb_iff w.start w'.start) (not_iff (overlaps_iff kind R w.start w.end w'.start w'.end v v')))
-          (not_iff (eqb_iff w.row w'.row))
+          (and_iff (Decides-ltb w.start w'.start) (not_iff (overlaps_iff kind R w.start w.end w'.start w'.end v v')))
+          (not_iff (Decides-eqb w.row w'.row))
 
   listen_iff : (w : Listen) → (is_listen kind R w ≡ true) ↔ ((w.row < max_rows) × Window kind R w.start w.end)
-  listen_iff w = and_iff (ltb_iff w.row max_rows) (window_iff kind R w.start w.end)
+  listen_iff w = and_iff (Decides-ltb w.row max_rows) (window_iff kind R w.start w.end)
 
   part_cons : (w : Listen) (ws : List Listen)
       → (is_part kind R (w ∷ ws) ≡ true) ↔ ((((w.row < max_rows) × Window kind R w.start w.end) × ((w' : Listen) → Memᴰ w' ws → is_before w w' ≡ true)) × (is_part kind R ws ≡ true))
@@ -139,12 +140,12 @@ Others ws us = (w u : Listen) → Memᴰ w ws → Memᴰ u us → w.row ≢ u.ro
 module _ (w : Listen) (ws us : List Listen) where
   others_cons : Others (w ∷ ws) us ↔ (((u : Listen) → Memᴰ u us → is_other w.row u ≡ true) × Others ws us)
   others_cons = (
-    λ f. (λ u n. (not_iff (eqb_iff w.row u.row)).1 (f w u (Memᴰ.head refl) n), λ v u m n. f v u (Memᴰ.tail m) n),
+    λ f. (λ u n. (not_iff (Decides-eqb w.row u.row)).1 (f w u (Memᴰ.head refl) n), λ v u m n. f v u (Memᴰ.tail m) n),
     λ f. back f.0 f.1,
   )
     where
       back : ((u : Listen) → Memᴰ u us → is_other w.row u ≡ true) → Others ws us → Others (w ∷ ws) us
-      back f g v u (Memᴰ.head q) n = rw q ((not_iff (eqb_iff w.row u.row)).0 (f u n))
+      back f g v u (Memᴰ.head q) n = rw q ((not_iff (Decides-eqb w.row u.row)).0 (f u n))
       back f g v u (Memᴰ.tail m) n = g v u m n
 
 pub others_iff : (ws us : List Listen) → (are_other ws us ≡ true) ↔ Others ws us

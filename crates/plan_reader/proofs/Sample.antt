@@ -5,9 +5,9 @@ use mathlib.Core.Bool.{true, false}
 use mathlib.Core.List.{List, [], ◌∷◌, ◌++◌}
 use Rattle.window.specs.declared.Kind.TheVariants.{Round, Run}
 use Rattle.plan_reader.specs.declared.Item.TheVariants.{Head, Receiver, Listen, Stop}
-use Rattle.plan_reader.specs.Items.{head_of, read_of, item_of, item_at}
+use Rattle.plan_reader.specs.Items.{head_of, read_of, item_of, after_item, item_at}
 use Rattle.plan_reader.specs.Judged.{is_plan_tape}
-use Rattle.std.specs.Prelude.{Some, None}
+use Rattle.std.specs.Prelude.{Some, None, drop}
 
 -- ROUND or RUN with R, the LISTENs of receivers 1 and 2, and STOP
 abbrev tape : List ℕ → List ℕ → List ℕ → List ℕ
@@ -69,16 +69,25 @@ pub limits :
 unfolding is_plan_tape
 limits = (refl, refl, refl, refl)
 
--- What stands at each place of a tape, and at places where nothing can be read: a command of a fleet tape, a LISTEN that is cut short, past the end.
+-- What stands at each place of a tape and what is left after it, and places where nothing can be read: a command of a fleet tape, a LISTEN that is cut short, past the end.
+abbrev heard : List ℕ
+heard = run (listen 7 2 4) []
+
+abbrev fleet : List ℕ
+fleet = 0x40 ∷ 0x00 ∷ 0x01 ∷ 0x00 ∷ 0x02 ∷ []
+
+abbrev short : List ℕ
+short = 0x30 ∷ 0x00 ∷ 0x00 ∷ 0x01 ∷ 0x00 ∷ []
+
 pub items :
-    (item_at (run (listen 7 2 4) []) 0 ≡ Some (Head (head_of Run 100) 3))
-    × (item_at (round [] []) 0 ≡ Some (Head (head_of Round 100) 3))
-    × (item_at (run (listen 7 2 4) []) 3 ≡ Some (Receiver 1 5))
-    × (item_at (run (listen 7 2 4) []) 5 ≡ Some (Listen (read_of 7 2 4) 11))
-    × (item_at (run (listen 7 2 4) []) 11 ≡ Some (Receiver 2 13))
-    × (item_at (run (listen 7 2 4) []) 13 ≡ Some (Stop 14))
-    × (item_at (run (listen 7 2 4) []) 14 ≡ None)
-    × (item_at (0x40 ∷ 0x00 ∷ 0x01 ∷ 0x00 ∷ 0x02 ∷ []) 0 ≡ None)
-    × (item_at (0x30 ∷ 0x00 ∷ 0x00 ∷ 0x01 ∷ 0x00 ∷ []) 0 ≡ None)
-unfolding item_of
+    (item_at heard 0 ≡ (Some (Head (head_of Run 100)), drop 3 heard))
+    × (item_at (round [] []) 0 ≡ (Some (Head (head_of Round 100)), drop 3 (round [] [])))
+    × (item_at heard 3 ≡ (Some (Receiver 1), drop 5 heard))
+    × (item_at heard 5 ≡ (Some (Listen (read_of 7 2 4)), drop 11 heard))
+    × (item_at heard 11 ≡ (Some (Receiver 2), drop 13 heard))
+    × (item_at heard 13 ≡ (Some Stop, drop 14 heard))
+    × (item_at heard 14 ≡ (None, drop 14 heard))
+    × (item_at fleet 0 ≡ (None, fleet))
+    × (item_at short 0 ≡ (None, short))
+unfolding item_of after_item
 items = (refl, refl, refl, refl, refl, refl, refl, refl, refl)

@@ -1,14 +1,15 @@
 -- The table and the labels that a plan tape tells of, with 64 rows: the table is valid, the labels are a plan of it, and its tape states what the plan tape does.
-use Prim.Native.Nat.{ℕ, zero, suc, ◌≤◌, ◌<◌}
+use Prim.Native.Nat.{ℕ, ◌≤◌, ◌<◌}
 use mathlib.Core.Path.{◌≡◌, refl, sym, ap, ◌∙◌}
 use mathlib.Core.Logic.Iff
 use mathlib.Core.Logic.{◌↔◌}
 use mathlib.Core.List.Memᴰ
-use mathlib.Core.List.{List, [], ◌∷◌, map, Memᴰ}
+use mathlib.Core.List.{List, map, Memᴰ}
 use native.Mathlib.Omega.{arith}
 use lib.ListN.{length}
 use Rattle.basics.specs.Limits.{max_rows}
-use Rattle.basics.specs.Lists.{at}
+use Rattle.basics.specs.Lists.{at, list_of}
+use Rattle.basics.proofs.Lists.{length_list, at_list}
 use Rattle.window.specs.Hours.{hours_from}
 use Rattle.window.proofs.Meaning.{window_end}
 use Rattle.window.proofs.Gaps.{too_close_0}
@@ -24,62 +25,45 @@ use Rattle.plan_reader.proofs.Parts.{Judged}
 use Rattle.plan_reader.proofs.Made.{rising_windows}
 use Rattle.plan_reader.proofs.Places.{Receiver, one, two, number, number_some, number_same, under, Place, heard, free, place, start_at, end_at, label_at, opened, part, sole, fits, known, apart}
 
--- ---- a list by its entries
-
-pub tabled : (ℕ → ℕ) → ℕ → List ℕ
-tabled f zero = []
-tabled f (suc n) = f 0 ∷ tabled (λ i. f (suc i)) n
-
-tabled_length : (f : ℕ → ℕ) (n : ℕ) → length (tabled f n) ≡ n
-unfolding tabled
-tabled_length f zero = refl
-tabled_length f (suc n) = ap suc (tabled_length (λ i. f (suc i)) n)
-
-tabled_at : (f : ℕ → ℕ) (n i : ℕ) → i < n → at (tabled f n) i ≡ f i
-unfolding tabled
-tabled_at f zero i h = absurd (omega arith)
-tabled_at f (suc n) zero h = refl
-tabled_at f (suc n) (suc i) h = tabled_at (λ k. f (suc k)) n i (omega arith)
-
 -- ---- the table and its labels
 
 module _ (s : Stated) where
   pub starts : List ℕ
-  starts = tabled (λ i. start_at (place s i)) max_rows
+  starts = list_of max_rows (λ i. start_at (place s i))
 
   pub ends : List ℕ
-  ends = tabled (λ i. end_at (place s i)) max_rows
+  ends = list_of max_rows (λ i. end_at (place s i))
 
   -- no row must be heard, and any receiver may hear it
   pub marks : List ℕ
-  marks = tabled (λ i. 0) max_rows
+  marks = list_of max_rows (λ i. 0)
 
   pub labels : List ℕ
-  labels = tabled (λ i. label_at (place s i)) max_rows
+  labels = list_of max_rows (λ i. label_at (place s i))
 
   unfoldable pub witness : Table
   witness = table (setting_of s.kind s.ticks 0 (hours_from 0 s.ticks 0 s.ticks)) starts ends marks
 
   each_start : length starts ≡ max_rows
   unfolding starts
-  each_start = tabled_length (λ i. start_at (place s i)) max_rows
+  each_start = length_list max_rows (λ i. start_at (place s i))
 
   each_label : length labels ≡ max_rows
   unfolding labels
-  each_label = tabled_length (λ i. label_at (place s i)) max_rows
+  each_label = length_list max_rows (λ i. label_at (place s i))
 
   module _ (i : ℕ) (h : i < max_rows) where
     start_at_place : at starts i ≡ start_at (place s i)
     unfolding starts
-    start_at_place = tabled_at (λ i. start_at (place s i)) max_rows i h
+    start_at_place = at_list max_rows (λ i. start_at (place s i)) i h
 
     end_at_place : at ends i ≡ end_at (place s i)
     unfolding ends
-    end_at_place = tabled_at (λ i. end_at (place s i)) max_rows i h
+    end_at_place = at_list max_rows (λ i. end_at (place s i)) i h
 
     label_at_place : at labels i ≡ label_at (place s i)
     unfolding labels
-    label_at_place = tabled_at (λ i. label_at (place s i)) max_rows i h
+    label_at_place = at_list max_rows (λ i. label_at (place s i)) i h
 
   module _ (J : Judged s) where
     pub witness_valid : Valid witness
@@ -87,14 +71,14 @@ module _ (s : Stated) where
     witness_valid =
         record {
           few = omega (arith, each_start);
-          each_end = tabled_length (λ i. end_at (place s i)) max_rows ∙ sym each_start;
-          each_mark = tabled_length (λ i. 0) max_rows ∙ sym each_start;
+          each_end = length_list max_rows (λ i. end_at (place s i)) ∙ sym each_start;
+          each_mark = length_list max_rows (λ i. 0) ∙ sym each_start;
           setting = record { ticks_least = J.ticks_least; ticks_most = J.ticks_most; gap_most = omega arith };
           row = λ i h.
               let l : i < max_rows = omega (arith, each_start) in
               record {
                 window = rw (start_at_place i l, end_at_place i l) (fits s J (place s i));
-                mark = omega (arith, tabled_at (λ i. 0) max_rows i l);
+                mark = omega (arith, at_list max_rows (λ i. 0) i l);
               };
         }
 
@@ -106,7 +90,7 @@ module _ (s : Stated) where
           allowed = λ i h.
               let l : i < max_rows = omega (arith, each_start) in
               let low : at labels i ≤ 2 = rw (label_at_place i l) (known s J (place s i)) in
-              unmarked witness.setting (row_at witness i) (tabled_at (λ i. 0) max_rows i l) (at labels i) low
+              unmarked witness.setting (row_at witness i) (at_list max_rows (λ i. 0) i l) (at labels i) low
               (opened s.kind s.ticks (row_at witness i) (at labels i) low (window_end s.kind s.ticks (at starts i) (at ends i) (witness_valid.row i h).window));
           apart = λ i j h k d n e o.
               let l : i < max_rows = omega (arith, each_start) in

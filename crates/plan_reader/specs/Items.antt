@@ -1,13 +1,13 @@
--- Believed: What stands at a place of a plan tape: a command with its operands, and the place after it.
-use Rattle.std.specs.Prelude.{ℕ, Option, Some, None, cond, List, get_or, drop}
+-- Believed: What stands first on what is left of a plan tape: a command with its operands, and the bytes after it.
+use Rattle.std.specs.Prelude.{ℕ, ◌≡◌, true, false, Option, Some, None, cond, List, [], ◌∷◌, get_or, drop}
 use Rattle.window.specs.declared.Kind.{Kind}
 use Rattle.window.specs.declared.Kind.TheVariants.{Round, Run}
-use Rattle.tape.specs.Commands.{ROUND, RUN, RECEIVER, LISTEN, STOP, operand_bytes, begins, past}
+use Rattle.tape.specs.Commands.{ROUND, RUN, RECEIVER, LISTEN, STOP, operand_bytes, begins, after}
 use Rattle.tape.specs.Words.{word_at}
-use Rattle.plan_tape.specs.PlanTapes.{kind_command}
-use Rattle.plan_tape.specs.Stated.{Listen, listen_of}
+use Rattle.plan_tape.specs.Stated.{Listen, listen_of, listens_in, after_listens}
 use Rattle.plan_reader.specs.declared.Head.{Head as Begin}
 use Rattle.plan_reader.specs.declared.Listen.{Listen as Read}
+use Rattle.plan_reader.specs.declared.PlanReader.{PlanReader}
 use Rattle.plan_reader.specs.declared.Item.{Item}
 use Rattle.plan_reader.specs.declared.Item.TheVariants as item
 
@@ -22,26 +22,57 @@ abbrev pub stated_listen : Read → Listen
 stated_listen w = listen_of w.row w.window.start w.window.end
 
 -- "LISTEN: row (8), start (16), end (16)"
-abbrev pub listen_at : List ℕ → ℕ → Item
-listen_at s at = item.Listen (read_of (get_or s 1 0) (word_at s 2) (word_at s 4)) (past LISTEN at)
+abbrev pub listen_at : List ℕ → Read
+listen_at s = read_of (get_or s 1 0) (word_at s 2) (word_at s 4)
 
 -- "RECEIVER: 1 or 2 (8 bits)"
-abbrev pub receiver_at : List ℕ → ℕ → Item
-receiver_at s at = item.Receiver (get_or s 1 0) (past RECEIVER at)
+abbrev pub receiver_at : List ℕ → Item
+receiver_at s = item.Receiver (get_or s 1 0)
 
 -- "ROUND, RUN: R (16 bits)"
-abbrev pub head_at : Kind → List ℕ → ℕ → Item
-head_at kind s at = item.Head (head_of kind (word_at s 1)) (past (kind_command kind) at)
+abbrev pub head_at : Kind → List ℕ → Item
+head_at kind s = item.Head (head_of kind (word_at s 1))
 
--- the item with which the bytes from a place on begin; any other byte, and a command that is cut short, is none
-unfoldable pub item_of : List ℕ → ℕ → Option Item
+-- the item with which bytes begin; any other byte, and a command that is cut short, is none
+unfoldable pub item_of : List ℕ → Option Item
 unfolding begins operand_bytes
-item_of s at =
-    cond (begins LISTEN s) (Some (listen_at s at))
-    (cond (begins RECEIVER s) (Some (receiver_at s at))
-    (cond (begins STOP s) (Some (item.Stop (past STOP at)))
-    (cond (begins ROUND s) (Some (head_at Round s at))
-    (cond (begins RUN s) (Some (head_at Run s at)) None))))
+item_of s =
+    cond (begins LISTEN s) (Some (item.Listen (listen_at s)))
+    (cond (begins RECEIVER s) (Some (receiver_at s))
+    (cond (begins STOP s) (Some item.Stop)
+    (cond (begins ROUND s) (Some (head_at Round s))
+    (cond (begins RUN s) (Some (head_at Run s)) None))))
 
-abbrev pub item_at : List ℕ → ℕ → Option Item
-item_at tape at = item_of (drop at tape) at
+-- the bytes after it, and all of them where none stands first
+unfoldable pub after_item : List ℕ → List ℕ
+unfolding begins operand_bytes
+after_item s =
+    cond (begins LISTEN s) (after LISTEN s)
+    (cond (begins RECEIVER s) (after RECEIVER s)
+    (cond (begins STOP s) (after STOP s)
+    (cond (begins ROUND s) (after ROUND s)
+    (cond (begins RUN s) (after RUN s) s))))
+
+-- what is left of the tape from the reader's position on
+abbrev pub left : PlanReader → List ℕ
+left r = drop r.at r.tape.now
+
+-- what the reader gives of what is left of its tape, and what is left then
+abbrev pub TakesItem : PlanReader → Option Item → PlanReader → Type 0
+TakesItem old given new = (given ≡ item_of (left old)) × (left new ≡ after_item (left old)) × (new.tape ≡ old.tape)
+
+-- what it gives if it is asked for a LISTEN, where one stands first: the LISTEN, and the bytes after it are left; else none, and the reader stays
+abbrev pub ReadsListen : PlanReader → Option Read → PlanReader → Type 0
+ReadsListen old None new = (begins LISTEN (left old) ≡ false) × (left new ≡ left old)
+ReadsListen old (Some w) new = (begins LISTEN (left old) ≡ true) × (w ≡ listen_at (left old)) × (left new ≡ after LISTEN (left old))
+
+-- the same by the LISTENs that stand one after the other: it is the first of those with which the rest begins; the others are left, and so is what follows them
+abbrev pub TakesListen : PlanReader → Option Read → PlanReader → Type 0
+TakesListen old None new =
+    (listens_in (left old) ≡ []) × (after_listens (left old) ≡ left new) × (left new ≡ left old) × (new.tape ≡ old.tape)
+TakesListen old (Some w) new =
+    (listens_in (left old) ≡ stated_listen w ∷ listens_in (left new)) × (after_listens (left old) ≡ after_listens (left new)) × (new.tape ≡ old.tape)
+
+-- what stands at a place of a tape, and the bytes after it
+abbrev pub item_at : List ℕ → ℕ → Option Item × List ℕ
+item_at tape at = (item_of (drop at tape), after_item (drop at tape))

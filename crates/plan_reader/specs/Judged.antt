@@ -1,12 +1,12 @@
 -- Inner: The plain test for a tape that the writer can make, clause for clause: its form, R, and each LISTEN beside the others. proofs/Taken.antt has that it says the same.
-use Rattle.std.specs.Prelude.{ℕ, Bool, true, cond, not, ◌&&◌, ◌||◌, Option, Some, None, List, [], ◌∷◌, ltb, eqb, get_or, drop}
+use Rattle.std.specs.Prelude.{ℕ, Bool, true, not, ◌&&◌, ◌||◌, List, [], ◌∷◌, ltb, eqb, get_or}
 use Rattle.std.specs.List.{list_all}
 use Rattle.basics.specs.Limits.{max_rows}
 use Rattle.window.specs.declared.Kind.{Kind}
 use Rattle.window.specs.Windows.{is_window, overlaps}
 use Rattle.refusals.specs.Refusals.{passes}
 use Rattle.table.specs.Checks.{ticks_refusal}
-use Rattle.tape.specs.Commands.{ROUND, RUN, RECEIVER, begins, stop_last, past}
+use Rattle.tape.specs.Commands.{ROUND, RUN, RECEIVER, begins, stop_last}
 use Rattle.plan_reader.specs.declared.judged.Listens.{Listens}
 use Rattle.plan_tape.specs.Stated.{Listen, Stated, listens_in, after_head, after_part, stated}
 
@@ -14,10 +14,6 @@ use Rattle.plan_tape.specs.Stated.{Listen, Stated, listens_in, after_head, after
 unfoldable pub is_receiver : ℕ → List ℕ → Bool
 unfolding begins
 is_receiver number s = begins RECEIVER s && eqb (get_or s 1 0) number
-
--- the place after it
-abbrev pub place_after : ℕ → List ℕ → ℕ → Option ℕ
-place_after number s at = cond (is_receiver number s) (Some (past RECEIVER at)) None
 
 -- "ROUND or RUN; RECEIVER 1; its LISTENs ..; RECEIVER 2; its LISTENs likewise; STOP", and nothing after it
 unfoldable pub is_formed : List ℕ → Bool
@@ -28,9 +24,9 @@ is_formed tape =
     && is_receiver 2 (after_part (after_head tape))
     && stop_last (after_part (after_part (after_head tape)))
 
--- the LISTENs from the place of a walk on
+-- the LISTENs that a walk has left
 abbrev pub listens_left : Listens → List Listen
-listens_left l = listens_in (drop l.reader.at l.reader.tape.now)
+listens_left l = listens_in l.rest.now
 
 -- a row of a table, with a window that passes check 6
 abbrev pub is_listen : Kind → ℕ → Listen → Bool

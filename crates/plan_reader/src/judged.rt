@@ -1,19 +1,19 @@
 // Whether a tape is one that the writer can make.
-ghost use Rattle.std.specs.Prelude.{◌≡◌, ◌↔◌, true, drop};
+ghost use Rattle.std.specs.Prelude.{◌≡◌, ◌↔◌, true};
 ghost use Rattle.std.specs.Iterator.{YieldsFirstBy, item_count};
 ghost use Rattle.std.specs.List.{list_all};
-ghost use Rattle.plan_tape.specs.Stated.{after_listens};
-ghost use Rattle.plan_reader.specs.Items.{stated_listen};
+ghost use Rattle.plan_tape.specs.Stated.{listens_in, after_listens};
+ghost use Rattle.plan_reader.specs.Items.{stated_listen, after_item, left};
 ghost use Rattle.plan_reader.specs.Taken.{WriterMakes};
-ghost use Rattle.plan_reader.specs.Judged.{place_after, listens_left, is_other, is_before, is_listen, is_part, are_other, are_parts, is_plan_tape};
+ghost use Rattle.plan_reader.specs.Judged.{listens_left, is_receiver, is_other, is_before, is_listen, is_part, are_other, are_parts, is_plan_tape};
 
-use crate::{Head, Item, Listen, PlanReader};
+use crate::{Head, Item, Listen, PlanReader, split_listen};
 use basics::MAX_ROWS;
 
-// The LISTENs that stand from the reader's place on, one after the other.
+// The LISTENs with which bytes begin, one after the other.
 #[derive(Clone, Copy)]
 struct Listens<'a> {
-    reader: PlanReader<'a>,
+    rest: &'a [u8],
 }
 
 impl<'a> Iterator for Listens<'a> {
@@ -23,38 +23,32 @@ impl<'a> Iterator for Listens<'a> {
 
     ghost remaining = { item_count listens_left };
 
+    #[tactic(auto, using(crate::proofs::Listens::no_listen, crate::proofs::Listens::listen_taken))]
     fn next(&mut self) -> Option<Listen> {
-        let Some(Item::Listen { listen, next }) = self.reader.next() else {
-            return None;
-        };
-        self.reader.at = next;
+        let (listen, rest) = split_listen(self.rest)?;
+        self.rest = rest;
         Some(listen)
     }
 }
 
-// The place after a RECEIVER with this number.
-fn after_receiver(reader: PlanReader, number: u8) -> Option<usize>
-    ensures { result ≡ place_after number (drop reader.entry.at reader.entry.tape.now) reader.entry.at }
+// Takes the item that stands first, and tells whether it is RECEIVER with this number.
+fn is_receiver(reader: &mut PlanReader, number: u8) -> bool
+    ensures stands { result ≡ is_receiver number (left reader.old) }
+    ensures rest { left reader.new ≡ after_item (left reader.old) }
 {
-    match reader.next() {
-        Some(
-            Item::Receiver {
-                number: stands,
-                next,
-            },
-        ) if stands == number => Some(next),
-        _ => None,
-    }
+    reader.next() == Some(Item::Receiver(number))
 }
 
-// The place after the LISTENs that stand from the reader's place on.
-fn after_listens(mut reader: PlanReader) -> usize
-    ensures { drop result reader.entry.tape.now ≡ after_listens (drop reader.entry.at reader.entry.tape.now) }
+// The LISTENs that stand first. A `while` on the lent reader: it goes on after them, which the caller needs.
+fn take_listens<'a>(reader: &mut PlanReader<'a>) -> Listens<'a>
+    ensures these { listens_left result ≡ listens_in (left reader.old) }
+    ensures rest { left reader.new ≡ after_listens (left reader.old) }
 {
-    while let Some(Item::Listen { next, .. }) = reader.next() {
-        reader.at = next;
-    }
-    reader.at
+    let listens = Listens {
+        rest: reader.left(),
+    };
+    while reader.listen().is_some() {}
+    listens
 }
 
 // Whether no LISTEN is of the row.
@@ -84,10 +78,10 @@ fn is_before_all(mut listens: Listens, listen: Listen) -> bool
 fn is_listen(head: Head, listen: Listen) -> bool
     ensures { result ≡ is_listen head.kind head.ticks (stated_listen listen) }
 {
-    (listen.row as usize) < MAX_ROWS && listen.window.is_proper(head.kind, head.ticks)
+    usize::from(listen.row) < MAX_ROWS && listen.window.is_proper(head.kind, head.ticks)
 }
 
-// Whether the LISTENs can be those of one receiver.
+// Whether the LISTENs can be those of one receiver. The walk stays a `while`: each LISTEN is held against those that are left.
 #[tactic(auto, unfolding(crate::specs::Judged::is_part))]
 fn is_part(mut listens: Listens, head: Head) -> bool
     ensures { result ≡ is_part head.kind head.ticks (listens_left listens.entry) }
@@ -123,28 +117,20 @@ pub fn is_plan_tape(tape: &[u8]) -> bool
     ensures computed { result ≡ is_plan_tape tape.now }
     ensures meaning { (result ≡ true) ↔ WriterMakes tape.now }
 {
-    let reader = PlanReader { tape, at: 0 };
-    let Some(Item::Head { head, next }) = reader.next() else {
+    let mut reader = PlanReader::new(tape);
+    let Some(Item::Head(head)) = reader.next() else {
         return false;
     };
-    let Some(first) = after_receiver(PlanReader { tape, at: next }, 1) else {
-        return false;
-    };
-    let middle = after_listens(PlanReader { tape, at: first });
-    let Some(second) = after_receiver(PlanReader { tape, at: middle }, 2) else {
-        return false;
-    };
-    let stop = after_listens(PlanReader { tape, at: second });
-    if !tape::is_stop_at(tape, stop) {
+    if !is_receiver(&mut reader, 1) {
         return false;
     }
-    are_parts(
-        head,
-        Listens {
-            reader: PlanReader { tape, at: first },
-        },
-        Listens {
-            reader: PlanReader { tape, at: second },
-        },
-    )
+    let first = take_listens(&mut reader);
+    if !is_receiver(&mut reader, 2) {
+        return false;
+    }
+    let second = take_listens(&mut reader);
+    if !tape::is_stop(reader.left()) {
+        return false;
+    }
+    are_parts(head, first, second)
 }

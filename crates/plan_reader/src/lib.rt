@@ -1,18 +1,19 @@
-// The reader of plan tapes: a tape and a place on it, and what stands there.
+// The reader of plan tapes: it keeps the tape and the position, and takes the command that stands there.
 #![tactic(auto)]
 
-ghost use Rattle.std.specs.Prelude.{◌≡◌, true, drop};
-ghost use Rattle.tape.specs.Commands.{LISTEN, RECEIVER, begins};
+ghost use Rattle.std.specs.Prelude.{◌≡◌, true, false, Some, None, MatchOption};
+ghost use Rattle.tape.specs.Commands.{LISTEN, begins, after};
 ghost use Rattle.plan_tape.specs.PlanTapes.{kind_command};
 ghost use Rattle.plan_tape.specs.Stated.{ticks_at};
-ghost use Rattle.plan_reader.specs.Items.{listen_at, receiver_at, head_at, item_at};
+ghost use Rattle.plan_reader.specs.Items.{listen_at, head_at, item_of, after_item, left, TakesItem, ReadsListen, TakesListen};
 
-use tape::{begins, past, word_at};
+use plan_tape::kind_command;
+use tape::{LISTEN, RECEIVER, STOP, after, word_at};
 use window::{Kind, Window};
 
 pub mod judged;
 
-// A plan tape and a place on it.
+// A plan tape and a position on it.
 #[derive(Clone, Copy)]
 pub struct PlanReader<'a> {
     pub tape: &'a [u8],
@@ -33,13 +34,57 @@ pub struct Listen {
     pub window: Window,
 }
 
-// A command of a plan tape with its operands, and the place after it.
+// A command of a plan tape with its operands.
 #[derive(Clone, Copy, Debug, PartialEq, Eq)]
 pub enum Item {
-    Head { head: Head, next: usize },
-    Receiver { number: u8, next: usize },
-    Listen { listen: Listen, next: usize },
-    Stop { next: usize },
+    Head(Head),
+    Receiver(u8),
+    Listen(Listen),
+    Stop,
+}
+
+// The LISTEN that stands first and the bytes after it.
+#[tactic(auto, using(crate::proofs::Items::listen_whole))]
+fn split_listen(tape: &[u8]) -> Option<(Listen, &[u8])>
+    ensures { MatchOption result (begins LISTEN tape.now ≡ false) (λ p. (begins LISTEN tape.now ≡ true) × (p.0 ≡ listen_at tape.now) × (p.1.now ≡ after LISTEN tape.now)) }
+{
+    let rest = after(tape, LISTEN)?;
+    let row = tape[1];
+    let window = Window {
+        start: word_at(tape, 2),
+        end: word_at(tape, 4),
+    };
+    Some((Listen { row, window }, rest))
+}
+
+// The ROUND or RUN of a kind that stands first, and the bytes after it.
+#[tactic(auto, using(crate::proofs::Items::head_whole))]
+fn split_head(tape: &[u8], kind: Kind) -> Option<(Item, &[u8])>
+    ensures { MatchOption result (begins (kind_command kind) tape.now ≡ false) (λ p. (begins (kind_command kind) tape.now ≡ true) × (p.0 ≡ head_at kind tape.now) × (p.1.now ≡ after (kind_command kind) tape.now)) }
+{
+    let rest = after(tape, kind_command(kind))?;
+    let ticks = word_at(tape, 1);
+    Some((Item::Head(Head { kind, ticks }), rest))
+}
+
+// The item that stands first and the bytes after it; None is something else, or a command that is cut short.
+#[tactic(auto, using(crate::proofs::Items::receiver_whole), unfolding(crate::specs::Items::item_of, crate::specs::Items::after_item))]
+fn split(tape: &[u8]) -> Option<(Item, &[u8])>
+    ensures { MatchOption result ((item_of tape.now ≡ None) × (after_item tape.now ≡ tape.now)) (λ p. (item_of tape.now ≡ Some p.0) × (after_item tape.now ≡ p.1.now)) }
+{
+    if let Some((listen, rest)) = split_listen(tape) {
+        return Some((Item::Listen(listen), rest));
+    }
+    if let Some(rest) = after(tape, RECEIVER) {
+        return Some((Item::Receiver(tape[1]), rest));
+    }
+    if let Some(rest) = after(tape, STOP) {
+        return Some((Item::Stop, rest));
+    }
+    if let Some(head) = split_head(tape, Kind::Round) {
+        return Some(head);
+    }
+    split_head(tape, Kind::Run)
 }
 
 impl<'a> PlanReader<'a> {
@@ -50,93 +95,54 @@ impl<'a> PlanReader<'a> {
         PlanReader { tape, at: 0 }
     }
 
-    // What stands at the reader's place; None is something else, or a command that is cut short.
-    #[tactic(auto, unfolding(crate::specs::Items::item_of))]
-    pub fn next(self) -> Option<Item>
-        ensures { result ≡ item_at self.entry.tape.now self.entry.at }
-    {
-        if begins(self.tape, self.at, tape::LISTEN) {
-            return Some(self.listen());
-        }
-        if begins(self.tape, self.at, tape::RECEIVER) {
-            return Some(self.receiver());
-        }
-        if begins(self.tape, self.at, tape::STOP) {
-            return Some(Item::Stop {
-                next: past(self.tape, self.at, tape::STOP),
-            });
-        }
-        if begins(self.tape, self.at, tape::ROUND) {
-            return Some(self.head(Kind::Round));
-        }
-        if begins(self.tape, self.at, tape::RUN) {
-            return Some(self.head(Kind::Run));
-        }
-        None
-    }
-
-    // The reader at another place of its tape: the one that an item gives as the next.
+    // The reader at another place of its tape.
     pub fn moved(self, at: usize) -> PlanReader<'a>
         ensures { (result.tape ≡ self.entry.tape) × (result.at ≡ at) }
     {
-        PlanReader {
-            tape: self.tape,
-            at,
-        }
+        PlanReader { at, ..self }
     }
 
-    // The LISTEN that stands at the place.
-    #[tactic(auto, using(crate::proofs::Items::listen_whole))]
-    fn listen(self) -> Item
-        requires { begins LISTEN (drop self.at self.tape.now) ≡ true }
-        ensures { result ≡ listen_at (drop self.entry.at self.entry.tape.now) self.entry.at }
+    // What is left of the tape.
+    #[tactic(auto, using(std::proofs::lemmas::List::drop_min))]
+    fn left(self) -> &'a [u8]
+        ensures { result.now ≡ left self.entry }
     {
-        Item::Listen {
-            listen: Listen {
-                row: self.tape[self.at + 1],
-                window: Window {
-                    start: word_at(self.tape, self.at + 2),
-                    end: word_at(self.tape, self.at + 4),
-                },
-            },
-            next: past(self.tape, self.at, tape::LISTEN),
-        }
+        &self.tape[self.at.min(self.tape.len())..]
     }
 
-    // The RECEIVER that stands at the place.
-    #[tactic(auto, using(crate::proofs::Items::receiver_whole))]
-    fn receiver(self) -> Item
-        requires { begins RECEIVER (drop self.at self.tape.now) ≡ true }
-        ensures { result ≡ receiver_at (drop self.entry.at self.entry.tape.now) self.entry.at }
+    // Takes the LISTEN that stands first; the reader stays where none does.
+    #[tactic(auto, using(crate::proofs::Listens::no_listen))]
+    pub fn listen(&mut self) -> Option<Listen>
+        ensures reads { ReadsListen self.old result self.new }
+        ensures takes { TakesListen self.old result self.new }
     {
-        Item::Receiver {
-            number: self.tape[self.at + 1],
-            next: past(self.tape, self.at, tape::RECEIVER),
-        }
-    }
-
-    // The ROUND or RUN that stands at the place.
-    #[tactic(auto, using(crate::proofs::Items::head_whole))]
-    fn head(self, kind: Kind) -> Item
-        requires { begins (kind_command kind) (drop self.at self.tape.now) ≡ true }
-        ensures { result ≡ head_at kind (drop self.entry.at self.entry.tape.now) self.entry.at }
-    {
-        Item::Head {
-            head: Head {
-                kind,
-                ticks: word_at(self.tape, self.at + 1),
-            },
-            next: past(self.tape, self.at, plan_tape::kind_command(kind)),
-        }
+        let left = self.left();
+        let (listen, rest) = split_listen(left)?;
+        self.at += left.len() - rest.len();
+        Some(listen)
     }
 }
 
-// R, as the ROUND or RUN with which a tape begins has it; 0 where neither does.
+// Takes the item that stands first; where none does the reader stays. `listen` does not call it: a walk over LISTENs tests for one command alone.
+impl<'a> Iterator for PlanReader<'a> {
+    type Item = Item;
+
+    ghost next_gives = { TakesItem };
+
+    fn next(&mut self) -> Option<Item> {
+        let left = self.left();
+        let (item, rest) = split(left)?;
+        self.at += left.len() - rest.len();
+        Some(item)
+    }
+}
+
+// R, as the ROUND or RUN with which a tape begins has it. It is 0 where neither does, and no Option: so the definition has it, and `player` needs one comparison, since no first tick is below 0.
 pub fn ticks_of(tape: &[u8]) -> u16
     ensures { result ≡ ticks_at tape.now }
 {
-    let reader = PlanReader { tape, at: 0 };
-    let Some(Item::Head { head, .. }) = reader.next() else {
+    let mut reader = PlanReader::new(tape);
+    let Some(Item::Head(head)) = reader.next() else {
         return 0;
     };
     head.ticks

@@ -9,10 +9,13 @@ use lib.Dec.{leb}
 use lib.ListN.{length}
 use Rattle.basics.specs.Lists.{Put}
 use Rattle.labels.specs.Labels.{heard}
-use Rattle.refusals.specs.Refusals.{number_of, answered, asked, ◌then◌, Accepted, NotPlan, Buffer, Outcome}
+use Rattle.std.specs.Prelude.{Result, Ok, Err, IsErrAnd}
+use Rattle.refusals.specs.declared.Refusal.{Refusal}
+use Rattle.refusals.specs.Numbers.{number}
+use Rattle.refusals.specs.Refusals.{number_of, answered, answer_of, asked, ◌then◌, Accepted, NotPlan, Buffer}
 use Rattle.table.specs.Tables.{Table, row_at, Plan, Valid, is_plan}
 use Rattle.table.specs.Checks.{lists_refusal, table_looked}
-use Rattle.refusals.proofs.Refusals.{Passed, then_passed, asked_passed}
+use Rattle.refusals.proofs.Refusals.{Passed, number_within, then_passed, asked_passed}
 use Rattle.table.proofs.Checked.{lists_passed, table_passed}
 use Rattle.table.proofs.Plans.{plan_iff, clash_start}
 use Rattle.plan_tape.specs.PlanTapes.{rows_of}
@@ -80,9 +83,11 @@ module _ (t : Table) (labels : List ℕ) where
   -- ---- the two kinds of answer
 
   module _ (before : List ℕ) where
-    pub written_refused : (r : Outcome) → r ≡ write_refusal t labels (length before) → (number_of r ≡ 0 → ⊥) → writing (answered r 0) before ≡ written t labels before
+    -- of the result that hands on a refusal
+    pub written_refused : {e : Refusal} (r : Result ℕ Refusal) → IsErrAnd r (λ y. y ≡ e) → Err e ≡ write_refusal t labels (length before) → writing (answer_of r) before ≡ written t labels before
     unfolding written
-    written_refused r e n = rw (← e, ne_eqb (number_of r) 0 n) refl
+    written_refused (Ok n) h q = absurd h
+    written_refused (Err y) h q = rw (← q, ← h, ne_eqb (number y) 0 (λ z. absurd (omega (arith, z, (number_within y).0)))) refl
 
     pub written_passed : Passed (write_refusal t labels (length before)) → (after : List ℕ) (next : ℕ) → Put before 0 (tape_of t labels) after next
         → writing (answered Accepted next) after ≡ written t labels before

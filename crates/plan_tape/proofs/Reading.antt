@@ -14,7 +14,7 @@ use Rattle.window.specs.declared.Kind.TheVariants.{Round, Run}
 use Rattle.tape.specs.Commands.{ROUND, RUN, RECEIVER, LISTEN, STOP, operand_bytes}
 use Rattle.tape.specs.Words.{word}
 use Rattle.tape.proofs.Joined.{joined_word}
-use Rattle.tape.proofs.Heads.{fits_at}
+use Rattle.tape.proofs.Heads.{long}
 use Rattle.plan_tape.specs.PlanTapes.{rows_of, listen, listens, kind_part, plan_tape}
 use Rattle.plan_tape.specs.Stated.{Listen, listen_of, listens_in, after_listens, part_in, after_part, kind_in, ticks_at, after_head, Stated, stated}
 use Rattle.plan_tape.proofs.Order.{rows_member, member_rows}
@@ -59,22 +59,22 @@ module _ (rest : List ℕ) (other : at rest 0 ≢ LISTEN) where
   module _ (receiver : ℕ) (ws : List Listen) where
     part_read : part_in (part_bytes receiver ws ++ rest) ≡ ws
     unfolding part_in operand_bytes
-    part_read = rw (fits_at (part_bytes receiver ws ++ rest) 0 RECEIVER (omega arith)) (listens_read ws)
+    part_read = rw (long RECEIVER (part_bytes receiver ws ++ rest) (omega arith)) (listens_read ws)
 
     pub part_passed : after_part (part_bytes receiver ws ++ rest) ≡ rest
     unfolding after_part operand_bytes
-    part_passed = rw (fits_at (part_bytes receiver ws ++ rest) 0 RECEIVER (omega arith)) (listens_passed ws)
+    part_passed = rw (long RECEIVER (part_bytes receiver ws ++ rest) (omega arith)) (listens_passed ws)
 
 module _ (R : ℕ) (rest : List ℕ) where
   kind_read : (kind : Kind) → kind_in (kind_part kind R ++ rest) ≡ kind
   unfolding kind_in operand_bytes
-  kind_read Round = rw (fits_at (kind_part Round R ++ rest) 0 RUN (omega arith)) refl
-  kind_read Run = rw (fits_at (kind_part Run R ++ rest) 0 RUN (omega arith)) refl
+  kind_read Round = rw (long RUN (kind_part Round R ++ rest) (omega arith)) refl
+  kind_read Run = rw (long RUN (kind_part Run R ++ rest) (omega arith)) refl
 
   ticks_read : (kind : Kind) → ticks_at (kind_part kind R ++ rest) ≡ R
   unfolding ticks_at operand_bytes
-  ticks_read Round = rw (fits_at (kind_part Round R ++ rest) 0 ROUND (omega arith)) (joined_word R)
-  ticks_read Run = rw (fits_at (kind_part Run R ++ rest) 0 ROUND (omega arith), fits_at (kind_part Run R ++ rest) 0 RUN (omega arith)) (joined_word R)
+  ticks_read Round = rw (long ROUND (kind_part Round R ++ rest) (omega arith)) (joined_word R)
+  ticks_read Run = rw (long ROUND (kind_part Run R ++ rest) (omega arith), long RUN (kind_part Run R ++ rest) (omega arith)) (joined_word R)
 
   pub head_passed : (kind : Kind) → after_head (kind_part kind R ++ rest) ≡ rest
   unfolding after_head operand_bytes

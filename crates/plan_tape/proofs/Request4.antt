@@ -3,7 +3,9 @@ use Prim.Native.Nat.{ℕ, ◌<◌}
 use mathlib.Core.Path.{◌≡◌, refl, sym}
 use mathlib.Core.List.{List}
 use native.Mathlib.Omega.{arith}
+use Rattle.std.specs.Prelude.{Err}
 use Rattle.window.specs.Gaps.{max_gap}
+use Rattle.refusals.specs.declared.Refusal.TheVariants as refusal
 use Rattle.refusals.specs.Refusals.{answered, Gap}
 use Rattle.refusals.proofs.Refusals.{Passed, then_first, then_next}
 use Rattle.table.specs.Tables.{Table}
@@ -17,6 +19,5 @@ pub refused_14 : (t : Table) (labels before : List ℕ) → Passed (lists_refusa
     → written t labels before ≡ writing (answered Gap 0) before
 unfolding write_refusal
 refused_14 t labels before lists ticks hours long =
-    sym (written_refused t labels before Gap
-    (then_next {a = lists_refusal t labels} refl lists (then_first (table_14 t ticks hours long) _ (λ z. omega arith)))
-    (λ z. omega arith))
+    sym (written_refused t labels before (Err refusal.Gap) refl
+    (then_next {a = lists_refusal t labels} refl lists (then_first (table_14 t ticks hours long) _ (λ z. omega arith))))

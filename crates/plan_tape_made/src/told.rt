@@ -1,12 +1,11 @@
 // A reader of plan tapes that shares nothing with the writer.
-use window::Kind;
+use window::{Kind, Window};
 
 // What a LISTEN tells of its row.
 #[derive(Clone, Copy, PartialEq, Eq)]
 struct Listen {
     receiver: u8,
-    start: u16,
-    end: u16,
+    window: Window,
 }
 
 // What a plan tape tells: for each row its LISTEN, if it is heard; and how long the tape is.
@@ -26,7 +25,7 @@ fn take_listen(rows: &mut [Option<Listen>; 64], row: u8, listen: Listen) -> Opti
     Some(())
 }
 
-// Takes a receiver's LISTENs down, which must rise by start, and returns what comes after them; None on a fault.
+// Takes a receiver's LISTENs down, which must rise by start, and returns what comes after them; None on a fault. How many there are shows only as they are read.
 fn take_listens<'a>(
     tape: &'a [u8],
     receiver: u8,
@@ -35,16 +34,15 @@ fn take_listens<'a>(
     let mut rest = tape;
     let mut last = None;
     while let [0x30, row, start1, start2, end1, end2, after @ ..] = rest {
-        let listen = Listen {
-            receiver,
+        let window = Window {
             start: u16::from_be_bytes([*start1, *start2]),
             end: u16::from_be_bytes([*end1, *end2]),
         };
-        if last >= Some(listen.start) {
+        if last >= Some(window.start) {
             return None;
         }
-        take_listen(rows, *row, listen)?;
-        last = Some(listen.start);
+        take_listen(rows, *row, Listen { receiver, window })?;
+        last = Some(window.start);
         rest = after;
     }
     Some(rest)
@@ -88,14 +86,10 @@ pub fn take_plan(tape: &[u8]) -> Option<Told> {
 
 impl Told {
     // Whether a row is told with this label and, where it is heard, this window.
-    pub fn is_row(&self, row: usize, label: u8, start: u16, end: u16) -> bool {
+    pub fn is_row(&self, row: usize, label: u8, window: Window) -> bool {
         let expected = match label {
             0 => None,
-            _ => Some(Listen {
-                receiver: label,
-                start,
-                end,
-            }),
+            receiver => Some(Listen { receiver, window }),
         };
         self.rows.get(row).copied().flatten() == expected
     }

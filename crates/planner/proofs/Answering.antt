@@ -1,25 +1,26 @@
 -- What the planner's parts report is what `plan_call` yields: the best plan or none, a refusal changes nothing, and the working space is cleared where paper 01 says so.
-use Prim.Native.Nat.{ℕ, ◌≤◌, ◌<◌}
+use Prim.Native.Nat.{ℕ, ◌≤◌}
 use mathlib.Core.Path.{◌≡◌, refl, sym, ap, ◌∙◌}
 use mathlib.Core.Bool.{true, ◌||◌}
 use mathlib.Core.List.{List, ◌++◌}
 use mathlib.Core.Option.{Option, none, some}
 use native.Mathlib.Omega.{arith}
-use lib.Dec.{eqb}
+use lib.Dec.{leb, eqb}
+use borrow.Author.Tests.{leb-true}
 use lib.ListN.{length, drop, replicate}
 use Rattle.line.specs.Cells.{core_bytes}
-use Rattle.refusals.specs.Refusals.{number_of, answered, passes, Space, Answer, Outcome}
+use Rattle.refusals.specs.Refusals.{number_of, answered, answer_of, passes, ◌then◌, Space, Answer, Outcome}
 use Rattle.refusals.specs.declared.Refusal.{Refusal}
 use Rattle.refusals.specs.Numbers.{number}
-use Rattle.refusals.proofs.Refusals.{Passed, number_within, refused_first}
-use Rattle.std.specs.Prelude.{Ok, Err}
+use Rattle.refusals.proofs.Refusals.{Passed, number_within, then_passed, asked_passed}
+use Rattle.std.specs.Prelude.{Result, Ok, Err, IsErrAnd}
 use Rattle.table.specs.Tables.{Table}
 use Rattle.table.specs.Checks.{lists_refusal, table_looked}
-use Rattle.table.specs.Planned.{space_bytes, checked, best_plan, Planned, answering, given, planned, space_after, called, plan_call, Demand3}
+use Rattle.table.specs.Planned.{space_bytes, space_refusal, checked, best_plan, Planned, answering, given, planned, space_after, called, plan_call, Demand3}
 use Rattle.best_plan.specs.Rows.{Checked}
 use Rattle.best_plan.proofs.Clearing.{space_cleared}
 use Rattle.table.proofs.Checked.{checked_8, checked_valid}
-use Rattle.table.proofs.Calls.{space_kept, space_next, rest_next}
+use Rattle.table.proofs.Calls.{space_kept, rest_next}
 use Rattle.table.proofs.Rivals.{planned_passed, planned_refused, demand_3}
 
 -- a check that gives no error passes
@@ -31,14 +32,6 @@ passed h k = rw (← h, k) refl
 module _ (t : Table) (before space : List ℕ) where
   abbrev lists : Outcome
   lists = lists_refusal t before
-
-  pub lists_refuse : {r : Outcome} {e : Refusal} → r ≡ lists → r ≡ Err e → Err e ≡ checked t before (length space)
-  unfolding checked
-  lists_refuse h k = refused_first h k _
-
-  pub space_refuses : Passed lists → length space < space_bytes → Space ≡ checked t before (length space)
-  unfolding checked
-  space_refuses = space_next lists (table_looked t).refusal (length space)
 
   pub table_checked : Passed lists → space_bytes ≤ length space → (table_looked t).refusal ≡ checked t before (length space)
   unfolding checked
@@ -58,22 +51,32 @@ module _ (t : Table) (before space : List ℕ) where
         λ p. rw (ap (λ (x : Planned). x.answer) e, ap (λ (x : Planned). x.labels) e) (demand_3 t before (length space) p),
       )
 
-  -- what a refused call promises
-  pub refused_said : {e : Refusal} → Err e ≡ checked t before (length space) → Promised (answered (Err e) 0) before space
-  refused_said {e} q =
+  refused_so : {e : Refusal} → Err e ≡ checked t before (length space) → Promised (answered (Err e) 0) before space
+  refused_so {e} q =
       let n : number e ≡ 0 → ⊥ = λ z. absurd (omega (arith, (number_within e).0)) in
       let m : number_of (checked t before (length space)) ≡ 0 → ⊥ = λ z. n (ap number_of q ∙ z) in
       promised (answered (Err e) 0) before space
       (ap (λ x. answering (answered x 0) before) q ∙ sym (planned_refused t before (length space) m))
       (space_kept (Err e) space n (rw q (checked_8 t before (length space))))
 
+  -- what a call promises that hands on a refusal
+  pub refused_said : {e : Refusal} (r : Result ℕ Refusal) → IsErrAnd r (λ y. y ≡ e) → Err e ≡ checked t before (length space) → Promised (answer_of r) before space
+  refused_said (Ok n) h q = absurd h
+  refused_said (Err y) h q = rw h (refused_so q)
+
   -- ---- an answer
 
+  -- the working space is long enough
+  pub room : Passed (checked t before (length space)) → space_bytes ≤ length space
+  unfolding checked space_refusal
+  room p =
+      let f = then_passed lists (space_refusal (length space) then (table_looked t).refusal) p in
+      let g = then_passed (space_refusal (length space)) (table_looked t).refusal f.1 in
+      leb-true space_bytes (length space) (asked_passed (leb space_bytes (length space)) Space (omega arith) g.0)
+
   -- what planning a checked table is lent
-  pub ready : Passed (checked t before (length space)) → space_bytes ≤ length space → Checked t before space
-  ready p h =
-      let v = checked_valid t before (length space) p in
-      record { valid = v.0; each_label = v.1; room = omega arith }
+  pub ready : Passed (checked t before (length space)) → Checked t before space
+  ready p = let v = checked_valid t before (length space) p in record { valid = v.0; each_label = v.1; room = omega (arith, room p) }
 
   clears : (o : Option (List ℕ)) → (passes (given o before).answer.refusal || eqb (number_of (given o before).answer.refusal) 8) ≡ true
   unfolding given

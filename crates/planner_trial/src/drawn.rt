@@ -1,152 +1,55 @@
 // Small tables drawn from a pseudo-random sequence: short days, so that much overlaps, touches and is equal.
-use crate::searched::pairs;
-use brute_force::random;
-use table::{Rows, Setting};
-use trial_calls::first;
-use window::Kind;
+use brute_force::days::{Days, kind_by};
+use brute_force::random::{below_any, eight_after, from};
+use brute_force::windows::{Day, Row};
+use brute_force::{plans, random};
 
-// A run or a round; hours are p1, q1, p2, q2. `list` is the number of a label list (`brute_force::plans`), which is offered to the plan tape writer.
+// A table of the brute force's types. Only the first `count` rows count; the array has a place for each that there may be, since nothing is allocated.
 #[derive(Clone, Copy)]
 pub struct Table {
-    pub run: bool,
-    pub ticks: u16,
-    pub gap: u16,
-    pub hours: [u16; 4],
-    pub rows: usize,
-    pub starts: [u16; 8],
-    pub ends: [u16; 8],
-    pub marks: [u8; 8],
-    pub list: u32,
+    pub day: Day,
+    pub hours: [[u16; 2]; 2],
+    pub count: usize,
+    pub rows: [Row; 8],
+    // labels that are offered to the plan tape writer
+    pub labels: [u8; 8],
     // the sequence's state after the table
     pub state: u64,
 }
 
-impl Table {
-    // As the product is lent it.
-    pub fn setting(&self) -> Setting {
-        Setting {
-            kind: if self.run { Kind::Run } else { Kind::Round },
-            ticks: self.ticks,
-            gap: self.gap,
-            hours: pairs(self.hours),
-        }
-    }
-
-    pub fn lent(&self) -> Rows<'_> {
-        Rows {
-            starts: first(&self.starts, self.rows),
-            ends: first(&self.ends, self.rows),
-            marks: first(&self.marks, self.rows),
-        }
-    }
-}
-
-// A number below the limit; 0 if the limit is 0.
-fn below(state: u64, limit: u16) -> u16 {
-    if limit == 0 {
-        return 0;
-    }
-    random::below(state, limit)
-}
-
-// One of the `count` numbers from `low` on.
-fn from(state: u64, low: u16, count: u16) -> u16 {
-    std::num::wrapping_add_u16(low, below(state, count))
-}
-
-fn draw_starts(list: &mut [u16; 8], ticks: u16, state: u64) -> u64 {
-    let mut s = state;
-    for i in 0..8 {
-        s = random::next(s);
-        list[i] = below(s, ticks);
-    }
-    s
-}
-
-// How many ticks a window covers: up to `longest`, and in a round, for one row in eight, all R. The chance of that lies in the lower half of the state, which `below` leaves out.
-fn length(run: bool, ticks: u16, longest: u16, state: u64) -> u16 {
-    if run {
-        return from(state, 1, longest);
-    }
-    if state % 8 == 0 {
-        return ticks;
-    }
-    from(state, 1, longest)
-}
-
-// The end of a window of so many ticks: in a run cut off at R, in a round going on from R-1 to 0. After R ticks it is the start.
-fn end_of(run: bool, ticks: u16, start: u16, length: u16) -> u16 {
-    let end = std::num::wrapping_add_u16(start, length);
-    if end < ticks {
-        return end;
-    }
-    if run {
-        return ticks;
-    }
-    std::num::wrapping_sub_u16(end, ticks)
-}
-
-fn draw_ends(
-    list: &mut [u16; 8],
-    run: bool,
-    ticks: u16,
-    starts: &[u16; 8],
-    longest: u16,
-    state: u64,
-) -> u64 {
-    let mut s = state;
-    for i in 0..8 {
-        s = random::next(s);
-        list[i] = end_of(run, ticks, starts[i], length(run, ticks, longest, s));
-    }
-    s
-}
-
 // Half of the rows have mark 0, the others a mark from 1 to 5.
 fn mark(state: u64) -> u8 {
-    let n = below(state, 10);
-    match n {
-        5 => 1,
-        6 => 2,
-        7 => 3,
-        8 => 4,
-        9 => 5,
+    match below_any(state, 10) {
+        n @ 5..=9 => (n - 4) as u8,
         _ => 0,
     }
 }
 
-fn draw_marks(list: &mut [u8; 8], state: u64) -> u64 {
-    let mut s = state;
-    for i in 0..8 {
-        s = random::next(s);
-        list[i] = mark(s);
+// Eight rows, and the state after them. The sequence gives the starts first, then the lengths, then the marks.
+fn draw_rows(days: Days, state: u64) -> ([Row; 8], u64) {
+    let a = eight_after(state);
+    let b = eight_after(a[7]);
+    let c = eight_after(b[7]);
+    let rows = std::array::from_fn(|i| Row {
+        window: days.window(below_any(a[i], days.ticks), days.length(b[i])),
+        mark: mark(c[i]),
+    });
+    (rows, c[7])
+}
+
+// A receiver opens in the first part of the day and closes up to as much before the day's end, or at once for one receiver in 16.
+fn hours_of(ticks: u16, a: u64, b: u64) -> [u16; 2] {
+    let part = ticks / 3 + 1;
+    let opening = below_any(a, part);
+    if below_any(random::next(b), 16) == 0 {
+        return [opening, opening];
     }
-    s
+    [opening, ticks.wrapping_sub(below_any(b, part))]
 }
 
-// When a receiver opens, in the first part of the day, and when it closes: up to as much before the day's end, or at once for one receiver in 16.
-fn opening(ticks: u16, state: u64) -> u16 {
-    below(state, ticks / 3 + 1)
-}
-
-fn closing(ticks: u16, opening: u16, state: u64) -> u16 {
-    let early = below(state, ticks / 3 + 1);
-    if below(random::next(state), 16) == 0 {
-        return opening;
-    }
-    std::num::wrapping_sub_u16(ticks, early)
-}
-
-fn draw_hours(ticks: u16, state: u64) -> [u16; 4] {
-    let a = random::next(state);
-    let b = random::next(a);
-    let c = random::next(b);
-    let d = random::next(c);
-    let p1 = opening(ticks, a);
-    let p2 = opening(ticks, b);
-    let q1 = closing(ticks, p1, c);
-    let q2 = closing(ticks, p2, d);
-    [p1, q1, p2, q2]
+fn draw_hours(ticks: u16, state: u64) -> [[u16; 2]; 2] {
+    let [a, b, c, d, ..] = eight_after(state);
+    [hours_of(ticks, a, c), hours_of(ticks, b, d)]
 }
 
 // The gap: 0 for one table in four, R or more for one in eight, and for the others from 1 to a third of R and 1. Which of these it is lies in the lower half of the state.
@@ -160,32 +63,27 @@ fn gap(ticks: u16, state: u64) -> u16 {
 
 // A table of at most 7 rows on 2 to 24 ticks, a run one time in three, the longest of its windows drawn first, so that windows of all lengths come up.
 pub fn draw(state: u64) -> Table {
-    let a = random::next(state);
-    let run = below(a, 3) == 0;
-    let b = random::next(a);
+    let [a, b, c, d, ..] = eight_after(state);
+    let kind = kind_by(below_any(a, 3));
     let ticks = from(b, 2, 23);
-    let c = random::next(b);
-    let rows = below(c, 8) as usize;
-    let d = random::next(c);
-    let longest = from(d, 1, std::num::wrapping_sub_u16(ticks, 1));
-    let mut starts = [0u16; 8];
-    let e = draw_starts(&mut starts, ticks, d);
-    let mut ends = [0u16; 8];
-    let f = draw_ends(&mut ends, run, ticks, &starts, longest, e);
-    let mut marks = [0u8; 8];
-    let g = draw_marks(&mut marks, f);
-    let h = random::next(g);
-    let i = random::next(h);
-    Table {
-        run,
+    let days = Days {
+        kind,
         ticks,
-        gap: gap(ticks, h),
-        hours: draw_hours(ticks, i),
+        longest: from(d, 1, ticks.wrapping_sub(1)),
+    };
+    let (rows, e) = draw_rows(days, d);
+    let [f, g, after, ..] = eight_after(e);
+    let count = usize::from(below_any(c, 8));
+    Table {
+        day: Day {
+            kind,
+            ticks,
+            gap: gap(ticks, f),
+        },
+        hours: draw_hours(ticks, g),
+        count,
         rows,
-        starts,
-        ends,
-        marks,
-        list: below(i, 2187) as u32,
-        state: random::next(i),
+        labels: plans::labels(count, below_any(g, 2187)),
+        state: after,
     }
 }

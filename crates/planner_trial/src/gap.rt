@@ -1,10 +1,10 @@
 // In how many tables the gap decides the answer (request 4 of paper 02): what the brute force finds is another answer with another gap, or where it is counted otherwise.
 use crate::drawn::Table;
-use crate::searched::{clashes_by, found_with};
 use brute_force::plans::{Found, changed};
+use brute_force::windows::{Day, Kind};
 use trial_report::more;
 
-#[derive(Clone, Copy)]
+#[derive(Clone, Copy, Default)]
 pub struct Gaps {
     // g is R or more
     pub long: u32,
@@ -17,43 +17,27 @@ pub struct Gaps {
     pub not_other: u32,
 }
 
-pub fn nothing() -> Gaps {
-    Gaps {
-        long: 0,
-        not_0: 0,
-        no_plan: 0,
-        not_more: 0,
-        not_other: 0,
-    }
+// What the brute force finds where the gap is counted as in the other kind of day.
+fn found_otherwise(t: Table) -> Found {
+    let kind = match t.day.kind {
+        Kind::Round => Kind::Run,
+        Kind::Run => Kind::Round,
+    };
+    t.found_by(&t.sets(), Day { kind, ..t.day })
 }
 
-// What the brute force finds with this gap, counted as in a run or as in a round.
-fn found_by(t: Table, run: bool, gap: u16) -> Found {
-    found_with(t, &clashes_by(t, run, gap))
-}
-
-// What it finds with a gap of 0.
-pub fn without(t: Table) -> Found {
-    found_by(t, t.run, 0)
-}
-
-// Whether there is no plan, and one without the gap.
-fn only_without(right: Found, other: Found) -> bool {
-    right.plan.is_none() && other.plan.is_some()
-}
-
-// One table more, if it is a run or a round as asked.
-pub fn of_kind(g: Gaps, t: Table, run: bool, right: Found) -> Gaps {
-    if t.run != run {
-        return g;
-    }
-    let other = without(t);
-    let longer = std::num::wrapping_add_u16(t.gap, 1);
-    Gaps {
-        long: more(g.long, t.ticks <= t.gap),
-        not_0: more(g.not_0, changed(right, other)),
-        no_plan: more(g.no_plan, only_without(right, other)),
-        not_more: more(g.not_more, changed(right, found_by(t, run, longer))),
-        not_other: more(g.not_other, changed(right, found_by(t, !run, t.gap))),
+impl Gaps {
+    // One table more.
+    pub fn with_table(self, t: Table, right: Found) -> Gaps {
+        let without = t.with_gap(0).found();
+        let longer = t.with_gap(t.day.gap.wrapping_add(1)).found();
+        let only_without = right.plan.is_none() && without.plan.is_some();
+        Gaps {
+            long: more(self.long, t.day.ticks <= t.day.gap),
+            not_0: more(self.not_0, changed(right, without)),
+            no_plan: more(self.no_plan, only_without),
+            not_more: more(self.not_more, changed(right, longer)),
+            not_other: more(self.not_other, changed(right, found_otherwise(t))),
+        }
     }
 }

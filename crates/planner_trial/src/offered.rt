@@ -1,14 +1,12 @@
 // Labels offered to the plan tape writer with no room for a tape: it gives 10 where the brute force says that they are a plan, and 9 where it says that they are not.
 use crate::drawn::Table;
-use crate::gap::without;
-use crate::searched::{clashes_by, permissions};
 use brute_force::plans;
 use brute_force::plans::Found;
 use trial_calls::{first, is_taped};
 use trial_report::more;
 
 // How many lists of labels were offered, how many of them are a plan, are one with a gap of 0 alone, are none with any gap, and how many answers differ.
-#[derive(Clone, Copy)]
+#[derive(Clone, Copy, Default)]
 pub struct Offered {
     pub lists: u32,
     pub plans: u32,
@@ -17,53 +15,38 @@ pub struct Offered {
     pub differ: u32,
 }
 
-pub fn nothing() -> Offered {
-    Offered {
-        lists: 0,
-        plans: 0,
-        too_close: 0,
-        others: 0,
-        differ: 0,
+// The labels of an answer; where there is none, the first list of all.
+fn labels_of(t: Table, found: Found) -> [u8; 8] {
+    found
+        .plan
+        .map_or(plans::labels(t.count, 0), |plan| plan.labels)
+}
+
+impl Offered {
+    // One list more.
+    fn with_list(self, t: Table, list: [u8; 8]) -> Offered {
+        let labels = first(&list, t.count);
+        let plan = t.is_plan(labels);
+        let former = t.with_gap(0).is_plan(labels);
+        let number = if plan { 10 } else { 9 };
+        let right = is_taped(t.lent().table(), labels, 0, Err(number));
+        Offered {
+            lists: more(self.lists, true),
+            plans: more(self.plans, plan),
+            too_close: more(self.too_close, former != plan),
+            others: more(self.others, !former),
+            differ: more(self.differ, !right),
+        }
     }
-}
 
-// Whether the writer gives the number for the label list of a number.
-fn is_answered(t: Table, list: u32, number: u8) -> bool {
-    let labels = plans::labels(t.rows, list);
-    is_taped(
-        t.setting(),
-        t.lent(),
-        first(&labels, t.rows),
-        0,
-        number,
-        &[],
-    )
-}
-
-// Whether the label list of a number is a plan with a gap.
-fn is_plan(t: Table, list: u32, gap: u16) -> bool {
-    let clashes = clashes_by(t, t.run, gap);
-    plans::judge(t.rows, list, &clashes, &permissions(t)).is_some()
-}
-
-// One list more.
-fn with_list(o: Offered, t: Table, list: u32) -> Offered {
-    let plan = is_plan(t, list, t.gap);
-    let former = is_plan(t, list, 0);
-    let number: u8 = if plan { 10 } else { 9 };
-    Offered {
-        lists: more(o.lists, true),
-        plans: more(o.plans, plan),
-        too_close: more(o.too_close, former != plan),
-        others: more(o.others, !former),
-        differ: more(o.differ, !is_answered(t, list, number)),
+    // The labels of the right answer, those that are right with a gap of 0, and a list that was drawn.
+    pub fn with_table(self, t: Table, right: Found) -> Offered {
+        let without = t.with_gap(0).found();
+        let drawn = t.labels;
+        let mut offered = self;
+        for list in [labels_of(t, right), labels_of(t, without), drawn] {
+            offered = offered.with_list(t, list);
+        }
+        offered
     }
-}
-
-// The labels of the right answer, those that are right with a gap of 0, and a list that was drawn. Where there is no answer, the first list of all is offered instead.
-pub fn with_table(o: Offered, t: Table, right: Found) -> Offered {
-    let other = without(t);
-    let mut lists = with_list(o, t, right.first);
-    lists = with_list(lists, t, other.first);
-    with_list(lists, t, t.list)
 }

@@ -5,7 +5,6 @@ use mathlib.Core.Bool.{false, ◌||◌}
 use mathlib.Core.List.{List}
 use native.Mathlib.Omega.{arith}
 use borrow.Author.Tests.{lt-ltb, le-ltb}
-use lib.ListN.{drop}
 use Rattle.window.specs.declared.Kind.{Kind}
 use Rattle.window.specs.Windows.{next}
 use Rattle.tape.specs.Commands.{ROUND, RUN, begins}
@@ -29,12 +28,12 @@ module _ (tape : List ℕ) (player : Player) where
   unfolding stepped stated
   step_tells h = rw (lt-ltb _ _ h) refl
 
-  pub step_moves : (from : ℕ) {kind : Kind} {R tick : ℕ} {state : State} → kind_in tape ≡ kind → ticks_at tape ≡ R → drop from tape ≡ after_head tape → player.tick < R
-      → state ≡ state_of false (telling kind R player.tick Idle (part_in (drop from tape))) (telling kind R player.tick Idle (part_in (after_part (drop from tape))))
+  pub step_moves : {rest : List ℕ} {kind : Kind} {R tick : ℕ} {state : State} → kind_in tape ≡ kind → ticks_at tape ≡ R → rest ≡ after_head tape → player.tick < R
+      → state ≡ state_of false (telling kind R player.tick Idle (part_in rest)) (telling kind R player.tick Idle (part_in (after_part rest)))
       → tick ≡ next kind R player.tick
       → stepped_to state (player_at tick) ≡ stepped tape player
   unfolding moving told_at stated
-  step_moves from k t f h told moved =
+  step_moves k t f h told moved =
       let now = player.tick in
       (λ i. stepped_to (told i) (player_at (moved i)))
       ∙ (λ i.

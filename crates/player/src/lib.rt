@@ -1,9 +1,10 @@
 // The player: it follows a plan tape tick by tick, and tells of each receiver whether it is idle or listening to a row, and until which tick.
 #![tactic(auto)]
 
-ghost use Rattle.std.specs.Prelude.{◌≡◌, false, cond, drop};
+ghost use Rattle.std.specs.Prelude.{◌≡◌, false, cond};
 ghost use Rattle.window.specs.Windows.{lies_in};
 ghost use Rattle.plan_tape.specs.Stated.{listens_in, after_listens, part_in, after_part};
+ghost use Rattle.plan_reader.specs.Items.{left};
 ghost use Rattle.player.specs.declared.Receiver.TheVariants.{Idle, Listening};
 ghost use Rattle.player.specs.Told.{telling};
 ghost use Rattle.player.specs.Played.{player_at, state_of, resting, stepped, finished_tick, started_of, started};
@@ -19,7 +20,7 @@ pub enum Receiver {
     Listening { row: u8, until: u16 },
 }
 
-// What a step tells: that the player is finished, or what each receiver does at the step's tick. The C interface hands it over field by field.
+// What a step tells: that the player is finished, or what each receiver does at the step's tick. Paper 01 names these three, and C's struct has them as fields.
 #[derive(Clone, Copy, Debug, PartialEq, Eq)]
 pub struct State {
     pub finished: bool,
@@ -38,13 +39,6 @@ pub struct Player {
 pub struct Stepped {
     pub state: State,
     pub player: Player,
-}
-
-// What the LISTENs of a receiver tell, and the place after them.
-#[derive(Clone, Copy)]
-struct Part {
-    receiver: Receiver,
-    next: usize,
 }
 
 // A tick of a round or a run.
@@ -67,47 +61,43 @@ impl Moment {
         before
     }
 
-    // What the LISTENs from the reader's place on tell.
-    fn tell_listens(self, mut reader: PlanReader) -> Part
-        ensures receiver_value { result.receiver ≡ telling self.head.kind self.head.ticks self.tick Idle (listens_in (drop reader.entry.at reader.entry.tape.now)) }
-        ensures tape_value { drop result.next reader.entry.tape.now ≡ after_listens (drop reader.entry.at reader.entry.tape.now) }
+    // What the LISTENs that stand first tell. A `while let` on the lent reader: it goes on after them, which the caller needs.
+    #[tactic(auto, unfolding(crate::specs::Told::telling))]
+    fn tell_listens(self, reader: &mut PlanReader) -> Receiver
+        ensures told { result ≡ telling self.head.kind self.head.ticks self.tick Idle (listens_in (left reader.old)) }
+        ensures rest { left reader.new ≡ after_listens (left reader.old) }
     {
         let mut receiver = Receiver::Idle;
-        while let Some(Item::Listen { listen, next }) = reader.next() {
+        while let Some(listen) = reader.listen() {
             receiver = self.tell(receiver, listen);
-            reader.at = next;
         }
-        let next = reader.at;
-        Part { receiver, next }
+        receiver
     }
 
-    // What the LISTENs of the receiver that stands at the reader's place tell; nothing where none stands there.
-    fn tell_part(self, reader: PlanReader) -> Part
-        ensures receiver_value { result.receiver ≡ telling self.head.kind self.head.ticks self.tick Idle (part_in (drop reader.entry.at reader.entry.tape.now)) }
-        ensures tape_value { drop result.next reader.entry.tape.now ≡ after_part (drop reader.entry.at reader.entry.tape.now) }
+    // What the receiver that stands first does, and the reader goes on after its LISTENs; nothing where none stands first, and the reader stays.
+    fn tell_part(self, reader: &mut PlanReader) -> Receiver
+        ensures told { result ≡ telling self.head.kind self.head.ticks self.tick Idle (part_in (left reader.old)) }
+        ensures rest { left reader.new ≡ after_part (left reader.old) }
     {
-        let Some(Item::Receiver { next, .. }) = reader.next() else {
-            return Part {
-                receiver: Receiver::Idle,
-                next: reader.at,
-            };
+        let mut ahead = *reader;
+        let Some(Item::Receiver(_)) = ahead.next() else {
+            return Receiver::Idle;
         };
-        self.tell_listens(PlanReader { at: next, ..reader })
+        let receiver = self.tell_listens(&mut ahead);
+        *reader = ahead;
+        receiver
     }
 
-    // What a tape tells at this tick, its receivers standing from the reader's place on.
-    fn tell_both(self, reader: PlanReader) -> State
-        ensures { result ≡ state_of false (telling self.head.kind self.head.ticks self.tick Idle (part_in (drop reader.entry.at reader.entry.tape.now))) (telling self.head.kind self.head.ticks self.tick Idle (part_in (after_part (drop reader.entry.at reader.entry.tape.now)))) }
+    // What a tape tells at this tick, its receivers standing first.
+    fn tell_both(self, mut reader: PlanReader) -> State
+        ensures { result ≡ state_of false (telling self.head.kind self.head.ticks self.tick Idle (part_in (left reader.entry))) (telling self.head.kind self.head.ticks self.tick Idle (part_in (after_part (left reader.entry)))) }
     {
-        let first = self.tell_part(reader);
-        let second = self.tell_part(PlanReader {
-            at: first.next,
-            ..reader
-        });
+        let first = self.tell_part(&mut reader);
+        let second = self.tell_part(&mut reader);
         State {
             finished: false,
-            receiver1: first.receiver,
-            receiver2: second.receiver,
+            receiver1: first,
+            receiver2: second,
         }
     }
 }
@@ -140,8 +130,8 @@ impl Player {
     pub fn step(self, tape: &[u8]) -> Stepped
         ensures { result ≡ stepped tape.now self }
     {
-        let reader = PlanReader { tape, at: 0 };
-        let Some(Item::Head { head, next }) = reader.next() else {
+        let mut reader = PlanReader::new(tape);
+        let Some(Item::Head(head)) = reader.next() else {
             return self.rest();
         };
         if head.ticks <= self.tick {
@@ -152,7 +142,7 @@ impl Player {
             tick: self.tick,
         };
         Stepped {
-            state: moment.tell_both(PlanReader { at: next, ..reader }),
+            state: moment.tell_both(reader),
             player: Player {
                 tick: head.kind.next_tick(head.ticks, self.tick),
             },

@@ -1,27 +1,34 @@
--- Inner: Whether a call of the player gave what is expected, by numbers alone: nothing here is said by the product's definitions.
-use Rattle.std.specs.Prelude.{ℕ, ◌+◌, ◌*◌, Bool, cond, not, ◌&&◌, eqb}
-use Rattle.refusals.specs.Refusals.{number_of}
+-- Inner: Whether a call of the player gave what is expected, which is told by types of the trial's own: nothing here is said by the product's definitions.
+use Rattle.std.specs.Prelude.{ℕ, ◌≡◌, Option, None, Some, Result, Ok, Err}
+use Rattle.refusals.specs.Refusals.{Outcome, Accepted}
+use Rattle.refusals.specs.Numbers.{number}
 use Rattle.player.specs.declared.Receiver.{Receiver}
-use Rattle.player.specs.declared.Receiver.TheVariants.{Idle, Listening}
+use Rattle.player.specs.declared.Receiver.TheVariants.{Idle, Listening as Listens}
 use Rattle.player.specs.Played.{Started}
 use Rattle.player.specs.declared.Stepped.{Stepped}
+use Rattle.player_calls.specs.declared.Listening.{Listening}
+use Rattle.player_calls.specs.declared.Step.{Step}
 
--- what a receiver does, as a number: 0 if it is idle; if it listens, one more than the row, and then in the lower 16 bits the tick until which it does
-abbrev pub told_number : Receiver → ℕ
-told_number Idle = 0
-told_number (Listening row end) = (row + 1) * 65536 + end
+-- what a receiver does: None if it is idle; if it listens, the row and the tick until which it does
+abbrev pub told : Receiver → Option Listening
+told Idle = None
+told (Listens row end) = Some (record { row = row; until = end })
 
-abbrev pub same : Bool → Bool → Bool
-same a b = cond a b (not b)
+-- what a step tells of both receivers, and the tick of the player that it gives
+abbrev pub given : Stepped → Step
+given stepped = record {
+  finished = stepped.state.finished;
+  receiver1 = told stepped.state.receiver1;
+  receiver2 = told stepped.state.receiver2;
+  next = stepped.player.tick;
+}
 
--- a step tells this of both receivers and gives a player at this tick
-unfoldable pub is_step : Stepped → Bool → ℕ → ℕ → ℕ → Bool
-is_step stepped finished told1 told2 next =
-    same stepped.state.finished finished
-    && eqb (told_number stepped.state.receiver1) told1
-    && eqb (told_number stepped.state.receiver2) told2
-    && eqb stepped.player.tick next
+-- a check reports the refusal of this number
+abbrev pub IsRefused : Outcome → ℕ → Type 0
+IsRefused (Ok _) _ = ⊥
+IsRefused (Err refusal) n = number refusal ≡ n
 
--- a start has this refusal and gives a player at this tick
-unfoldable pub is_start : Started → ℕ → ℕ → Bool
-is_start started number tick = eqb (number_of started.refusal) number && eqb started.player.tick tick
+-- a start is accepted and gives a player at this tick, or has the refusal of this number and gives the finished player
+abbrev pub IsStart : Started → Result ℕ ℕ → Type 0
+IsStart started (Ok tick) = (started.refusal ≡ Accepted) × (started.player.tick ≡ tick)
+IsStart started (Err n) = IsRefused started.refusal n × (started.player.tick ≡ 65535)

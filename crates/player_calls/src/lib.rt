@@ -1,10 +1,11 @@
 // Calls of the player, each judged whole, for the program that tries it.
-// Product code names what is answered: `u8::from` the number of a refusal, and the player's own types.
+// Product code names what is answered: `u8::from` the number of a refusal, and the player's own types. What is expected has types of its own, so that the product's names
+// have no part in it.
 #![tactic(auto)]
 
-ghost use Rattle.std.specs.Prelude.{◌≡◌, ◌+◌, ◌*◌};
+ghost use Rattle.std.specs.Prelude.{◌≡◌, ◌↔◌, true};
 ghost use Rattle.player.specs.Played.{started_of};
-ghost use Rattle.player_calls.specs.Judged.{told_number, is_step, is_start};
+ghost use Rattle.player_calls.specs.Judged.{told, given, IsStart};
 
 use player::{Player, Receiver, Stepped};
 use refusals::Refusal;
@@ -12,59 +13,74 @@ use refusals::Refusal;
 // The tick of the finished player, which stands for the one that a refused start gives.
 const FINISHED: u16 = 65535;
 
-// That a receiver listens, as a number; 0 is idle. What is expected is told by numbers alone, so that the product's names have no part in it.
-pub fn listening(row: u8, until: u16) -> u32
-    ensures { result ≡ (row + 1) * 65536 + until }
-{
-    (u32::from(row) + 1) * 65536 + u32::from(until)
+// The row to which a receiver listens, and until which tick; None in its place is an idle receiver.
+#[derive(Clone, Copy, Debug, PartialEq, Eq)]
+pub struct Listening {
+    pub row: u8,
+    pub until: u16,
 }
 
-// What a receiver does, as a number.
-fn number_of(receiver: Receiver) -> u32
-    ensures { result ≡ told_number receiver }
+// What a step tells, and the tick of the player that it gives. `finished` stands beside the receivers, since paper 01 names the state's parts so, and C's struct has them.
+#[derive(Clone, Copy, Debug, PartialEq, Eq)]
+pub struct Step {
+    pub finished: bool,
+    pub receiver1: Option<Listening>,
+    pub receiver2: Option<Listening>,
+    pub next: u16,
+}
+
+// What a receiver does. No `From`: neither `Option` nor `Receiver` is a type of this crate.
+fn told(receiver: Receiver) -> Option<Listening>
+    ensures { result ≡ told receiver }
 {
     match receiver {
-        Receiver::Idle => 0,
-        Receiver::Listening { row, until } => listening(row, until),
+        Receiver::Idle => None,
+        Receiver::Listening { row, until } => Some(Listening { row, until }),
     }
 }
 
 // Whether a step tells this of both receivers and gives a player at this tick.
-#[tactic(auto, unfolding(crate::specs::Judged::is_step))]
-pub fn is_step(stepped: Stepped, finished: bool, told1: u32, told2: u32, next: u16) -> bool
-    ensures { result ≡ is_step stepped finished told1 told2 next }
+pub fn is_step(stepped: Stepped, expected: Step) -> bool
+    ensures { (result ≡ true) ↔ (given stepped ≡ expected) }
 {
     let Stepped { state, player } = stepped;
-    state.finished == finished
-        && number_of(state.receiver1) == told1
-        && number_of(state.receiver2) == told2
-        && player.tick == next
+    let given = Step {
+        finished: state.finished,
+        receiver1: told(state.receiver1),
+        receiver2: told(state.receiver2),
+        next: player.tick,
+    };
+    given == expected
 }
 
-// Whether a start has this refusal and gives a player at this tick: with a refusal the finished one.
-#[tactic(auto, unfolding(crate::specs::Judged::is_start))]
-fn is_start(started: Result<Player, Refusal>, number: u8, tick: u16) -> bool
-    ensures { result ≡ is_start (started_of started) number tick }
+// Whether a start gives a player at this tick, or has the refusal of this number and gives the finished player. By cases and not by `==`: where a start is refused, the finished
+// player is looked at too.
+fn is_start(started: Result<Player, Refusal>, expected: Result<u16, u8>) -> bool
+    ensures { (result ≡ true) ↔ IsStart (started_of started) expected }
 {
-    match started {
-        Ok(player) => number == 0 && player.tick == tick,
-        Err(refusal) => u8::from(refusal) == number && Player::finished().tick == tick,
+    match (started, expected) {
+        (Ok(player), Ok(tick)) => player.tick == tick,
+        (Err(refusal), Err(number)) => {
+            u8::from(refusal) == number && Player::finished().tick == FINISHED
+        }
+        _ => false,
     }
 }
 
-// Whether a start is accepted, with a player at the first tick.
-pub fn is_accepted(tape: &[u8], first: u16) -> bool {
-    is_start(Player::start(tape, first), 0, first)
-}
-
-// Whether a start is refused by this number, with the finished player.
-pub fn is_refused(tape: &[u8], first: u16, number: u8) -> bool {
-    is_start(Player::start(tape, first), number, FINISHED)
+// Whether a start is accepted, with a player at the first tick, or refused by this number, with the finished player.
+pub fn is_started(tape: &[u8], first: u16, expected: Result<(), u8>) -> bool {
+    is_start(Player::start(tape, first), expected.map(|_| first))
 }
 
 // Whether a player at this tick is finished on a tape: its step says so, tells both receivers idle and changes nothing.
 pub fn is_finished(tape: &[u8], tick: u16) -> bool {
-    is_step(Player { tick }.step(tape), true, 0, 0, tick)
+    let resting = Step {
+        finished: true,
+        receiver1: None,
+        receiver2: None,
+        next: tick,
+    };
+    is_step(Player { tick }.step(tape), resting)
 }
 
 // Whether the player that a start gives, with a refusal the finished one, is finished on another tape.

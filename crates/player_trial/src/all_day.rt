@@ -1,8 +1,10 @@
 // Tapes with windows that send all day (request 3 of paper 02), played for two days beside what its words say of each tick:
 // "start equal to end now covers every tick", and "as the tick until which it listens the player gives the window's end".
-use crate::days::{Days, Listening, Time, idle};
+use crate::days::{Days, Time, idle};
 use crate::played::{Tally, play_from_each, play_twice};
-use crate::session::{session, told};
+use crate::session::{SESSION, told};
+use player_calls::Listening;
+use window::Kind;
 
 // How many tapes `all` plays.
 pub const TAPES: u32 = 6;
@@ -20,15 +22,13 @@ fn tape_of(ticks: u16, s: u16, t: u16) -> [u8; 20] {
 
 // What it tells.
 fn days_of(ticks: u16, s: u16, t: u16) -> Days {
-    let mut days = idle(Time { run: false, ticks });
+    let mut days = idle(Time {
+        kind: Kind::Round,
+        ticks,
+    });
     days.put_all(1, Some(Listening { row: 5, until: s }));
     days.put_all(2, Some(Listening { row: 63, until: t }));
     days
-}
-
-// From each first tick.
-fn from_each(before: Tally, ticks: u16, s: u16, t: u16) -> Tally {
-    play_from_each(before, &tape_of(ticks, s, t), &days_of(ticks, s, t))
 }
 
 // The longest day, from 21,600, where a window both starts and ends, and from the tick before it; the other window starts and ends at the last tick.
@@ -41,18 +41,19 @@ fn longest(before: Tally) -> Tally {
 
 // The session's tape with row 1, on receiver 2, from 20 to 20; from each first tick.
 fn beside_others(before: Tally) -> Tally {
-    let mut tape = session();
+    let mut tape = SESSION;
     tape[24] = 0x14;
     let mut days = told();
     days.put_all(2, Some(Listening { row: 1, until: 20 }));
     play_from_each(before, &tape, &days)
 }
 
+// From each first tick, then the others.
 pub fn all() -> Tally {
-    let mut tally = from_each(Tally::default(), 2, 0, 1);
-    tally = from_each(tally, 2, 1, 1);
-    tally = from_each(tally, 100, 0, 99);
-    tally = from_each(tally, 100, 42, 42);
+    let mut tally = Tally::default();
+    for (ticks, s, t) in [(2, 0, 1), (2, 1, 1), (100, 0, 99), (100, 42, 42)] {
+        tally = play_from_each(tally, &tape_of(ticks, s, t), &days_of(ticks, s, t));
+    }
     tally = longest(tally);
     beside_others(tally)
 }

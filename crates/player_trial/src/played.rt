@@ -1,7 +1,7 @@
 // A tape played step by step beside what each receiver must do at each tick, and how many steps met what is easily got wrong.
-use crate::days::{Days, Listening, Time};
+use crate::days::{Days, Time};
 use player::{Player, Stepped};
-use player_calls::{is_accepted, is_step, listening};
+use player_calls::{Listening, Step, is_started, is_step};
 use trial_report::more;
 
 // Starts and steps, how many of both differ, and of how many steps each fact holds.
@@ -20,7 +20,7 @@ pub struct Tally {
 }
 
 // What a receiver must do at a tick, at the one after it, and at the one until which it listens.
-#[derive(Clone, Copy)]
+#[derive(Clone, Copy, Default)]
 struct Told {
     tick: u16,
     now: Option<Listening>,
@@ -30,40 +30,22 @@ struct Told {
 
 fn told_at(days: &Days, receiver: u8, tick: u16) -> Told {
     if days.time.ticks <= tick {
-        return Told {
-            tick,
-            now: None,
-            next: None,
-            end: None,
-        };
+        return Told::default();
     }
     let now = days.at(receiver, tick);
     Told {
         tick,
         now,
         next: days.at(receiver, days.time.after(tick)),
-        end: match now {
-            Some(told) => days.at(receiver, told.until),
-            None => None,
-        },
+        end: now.and_then(|told| days.at(receiver, told.until)),
     }
 }
 
 impl Told {
-    // As a number, for `player_calls`.
-    fn number(self) -> u32 {
-        match self.now {
-            Some(told) => listening(told.row, told.until),
-            None => 0,
-        }
-    }
-
     // It listens to a window that goes on from R-1 to tick 0, and this tick is before that.
     fn is_over(self) -> bool {
-        match self.now {
-            Some(told) => told.until != 0 && told.until <= self.tick,
-            None => false,
-        }
+        self.now
+            .is_some_and(|told| told.until != 0 && told.until <= self.tick)
     }
 
     // Its window ends at the next tick, and another begins there.
@@ -78,10 +60,7 @@ impl Told {
 
     // This tick is the end of the window to which it listens.
     fn is_own_end(self) -> bool {
-        match self.now {
-            Some(told) => told.until == self.tick,
-            None => false,
-        }
+        self.now.is_some_and(|told| told.until == self.tick)
     }
 }
 
@@ -96,7 +75,7 @@ fn moved(time: Time, tick: u16) -> u16 {
 
 impl Tally {
     // One start more.
-    fn with_start(self, right: bool) -> Tally {
+    pub fn with_start(self, right: bool) -> Tally {
         Tally {
             starts: more(self.starts, true),
             differ: more(self.differ, !right),
@@ -105,68 +84,45 @@ impl Tally {
     }
 
     // One step more, of a player at this tick.
-    fn with_step(self, time: Time, tick: u16, stepped: Stepped, t1: Told, t2: Told) -> Tally {
-        let finished = time.ticks <= tick;
-        let right = is_step(
-            stepped,
-            finished,
-            t1.number(),
-            t2.number(),
-            moved(time, tick),
-        );
-        let idle = !finished && (t1.now.is_none() || t2.now.is_none());
+    fn with_step(self, days: &Days, tick: u16, stepped: Stepped) -> Tally {
+        let t1 = told_at(days, 1, tick);
+        let t2 = told_at(days, 2, tick);
+        let expected = Step {
+            finished: days.time.ticks <= tick,
+            receiver1: t1.now,
+            receiver2: t2.now,
+            next: moved(days.time, tick),
+        };
+        let idle = !expected.finished && (t1.now.is_none() || t2.now.is_none());
         Tally {
-            starts: self.starts,
             steps: more(self.steps, true),
-            differ: more(self.differ, !right),
+            differ: more(self.differ, !is_step(stepped, expected)),
             idle: more(self.idle, idle),
             both: more(self.both, t1.now.is_some() && t2.now.is_some()),
             over: more(self.over, t1.is_over() || t2.is_over()),
             touching: more(self.touching, t1.is_touching() || t2.is_touching()),
             all_day: more(self.all_day, t1.is_all_day() || t2.is_all_day()),
             own_end: more(self.own_end, t1.is_own_end() || t2.is_own_end()),
-            finished: more(self.finished, finished),
+            finished: more(self.finished, expected.finished),
+            ..self
         }
     }
 }
 
-// What was counted so far, the player, and the tick at which it must stand.
-#[derive(Clone, Copy)]
-struct Way {
-    tally: Tally,
-    on: Player,
-    tick: u16,
-}
-
-fn begun(before: Tally, tape: &[u8], first: u16) -> Way {
-    Way {
-        tally: before.with_start(is_accepted(tape, first)),
-        on: Player::start(tape, first).unwrap_or(Player::finished()),
-        tick: first,
-    }
-}
-
-impl Way {
-    fn with_next(self, tape: &[u8], days: &Days) -> Way {
-        let tick = self.tick;
-        let stepped = self.on.step(tape);
-        let t1 = told_at(days, 1, tick);
-        let t2 = told_at(days, 2, tick);
-        Way {
-            tally: self.tally.with_step(days.time, tick, stepped, t1, t2),
-            on: stepped.player,
-            tick: moved(days.time, tick),
-        }
-    }
-}
-
-// So many steps from a first tick on.
+// So many steps from a first tick on. Tape and days come one by one here and below: in a struct of both, `made::tables` was not proved, since the borrow check does not cover
+// a bound on a function that takes such a struct.
 pub fn play(before: Tally, tape: &[u8], days: &Days, first: u16, steps: u32) -> Tally {
-    let mut way = begun(before, tape, first);
+    let mut tally = before.with_start(is_started(tape, first, Ok(())));
+    let mut player = Player::start(tape, first).unwrap_or(Player::finished());
+    // The tick at which the player must stand.
+    let mut tick = first;
     for _ in 0..steps {
-        way = way.with_next(tape, days);
+        let stepped = player.step(tape);
+        tally = tally.with_step(days, tick, stepped);
+        player = stepped.player;
+        tick = moved(days.time, tick);
     }
-    way.tally
+    tally
 }
 
 // Two rounds from a first tick on; of a run all that is left of it, and steps of the finished player.
@@ -178,6 +134,16 @@ pub fn play_twice(before: Tally, tape: &[u8], days: &Days, first: u16) -> Tally 
 pub fn play_from_each(before: Tally, tape: &[u8], days: &Days) -> Tally {
     let mut tally = before;
     for first in 0..days.time.ticks {
+        tally = play_twice(tally, tape, days, first);
+    }
+    tally
+}
+
+// The same from the first tick, the last and one between.
+pub fn play_some(before: Tally, tape: &[u8], days: &Days) -> Tally {
+    let ticks = days.time.ticks;
+    let mut tally = before;
+    for first in [0, ticks / 3, ticks.wrapping_sub(1)] {
         tally = play_twice(tally, tape, days, first);
     }
     tally

@@ -1,14 +1,14 @@
 // The plan tape of paper 01's session, played for two days, beside what its windows say written out by hand.
-use crate::days::{Days, Listening, Time, idle};
+use crate::days::{Days, Time, idle};
 use crate::played::{Tally, play_from_each};
+use player_calls::Listening;
+use window::Kind;
 
 // A round of 100 ticks: on receiver 1 row 0, 10–30, and row 3, 90–10; on receiver 2 row 1, 20–40.
-pub fn session() -> [u8; 26] {
-    [
-        0x10, 0x00, 0x64, 0x20, 0x01, 0x30, 0x00, 0x00, 0x0A, 0x00, 0x1E, 0x30, 0x03, 0x00, 0x5A,
-        0x00, 0x0A, 0x20, 0x02, 0x30, 0x01, 0x00, 0x14, 0x00, 0x28, 0x7F,
-    ]
-}
+pub const SESSION: [u8; 26] = [
+    0x10, 0x00, 0x64, 0x20, 0x01, 0x30, 0x00, 0x00, 0x0A, 0x00, 0x1E, 0x30, 0x03, 0x00, 0x5A, 0x00,
+    0x0A, 0x20, 0x02, 0x30, 0x01, 0x00, 0x14, 0x00, 0x28, 0x7F,
+];
 
 // Receiver 1 at a tick of the day.
 fn told1(tick: u16) -> Option<Listening> {
@@ -30,7 +30,7 @@ fn told2(tick: u16) -> Option<Listening> {
 // What its tape tells.
 pub fn told() -> Days {
     let mut days = idle(Time {
-        run: false,
+        kind: Kind::Round,
         ticks: 100,
     });
     for tick in 0..100 {
@@ -42,5 +42,5 @@ pub fn told() -> Days {
 
 // Two days from each first tick.
 pub fn all() -> Tally {
-    play_from_each(Tally::default(), &session(), &told())
+    play_from_each(Tally::default(), &SESSION, &told())
 }

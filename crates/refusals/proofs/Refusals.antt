@@ -1,12 +1,12 @@
 -- Laws of checks that are made one after the other: which refusal comes out, what is known once all have passed, and what holds of every refusal that can come out.
 use Prim.Native.Nat.{◌≤◌, ◌<◌}
-use mathlib.Core.Path.{◌≡◌, refl, sym, ◌∙◌}
+use mathlib.Core.Path.{◌≡◌, refl}
 use mathlib.Core.Bool.{Bool, true, false, cond, not}
 use native.Mathlib.Omega.{arith}
-use borrow.Author.Tests.{eq-eqb, ne_eqb, eqb-true, eqb-false, not-true, not-false}
+use borrow.Author.Tests.{eq-eqb, ne_eqb, eqb-true, eqb-false, not-false}
 use Rattle.refusals.specs.declared.Refusal.{Refusal}
 use Rattle.refusals.specs.declared.Refusal.TheVariants as refusal
-use Rattle.std.specs.Prelude.{Result, Ok, Err}
+use Rattle.std.specs.Prelude.{Ok, Err}
 use Rattle.std.specs.Result.{is_err}
 use Rattle.refusals.specs.Numbers.{number}
 use Rattle.refusals.specs.Refusals.{Outcome, Accepted, Lists, Rows, Space, Ticks, Hours, Window, Mark, NoPlan, NotPlan, Buffer, Form, Tape, FirstTick, Gap, NoRow, Candidates, number_of, asked, passes, ◌then◌}
@@ -65,19 +65,11 @@ module _ {a r : Outcome} (e : r ≡ a) where
   then_next n q = rw (← e, eq-eqb (number_of r) 0 n) q
 
 module _ {a b : Bool} (r : Outcome) (e : a ≡ b) where
-  -- the test of a check fails
-  pub asked_failed : not a ≡ true → r ≡ asked b r
-  asked_failed n = rw (← e, not-true a n) refl
-
   -- the test of a check holds
   pub asked_held : not a ≡ false → Accepted ≡ asked b r
   asked_held n = rw (← e, not-false a n) refl
 
 -- ---- the same, of a check whose refusal is handed on by `?`
-
--- the first check refuses
-pub refused_first : {a r : Outcome} {e : Refusal} → r ≡ a → r ≡ Err e → (b : Outcome) → Err e ≡ (a then b)
-refused_first {e = e} h k b = sym k ∙ then_first h b (λ n. absurd (omega (arith, rw k at n, (number_within e).0)))
 
 -- the first check passes
 pub passed_next : {a r b x : Outcome} {u : Unit {0}} → r ≡ a → r ≡ Ok u → x ≡ b → x ≡ (a then b)

@@ -121,12 +121,12 @@ pub places_length : length places ≡ 64
 unfolding places
 places_length = refl
 
--- so many are taken of a list that has them
-pub taken_length : (n : ℕ) (l : List ℕ) → n ≤ length l → length (take n l) ≡ n
-taken_length n l h = length-take-le n l h
+-- the lists as they are first lent
+pub fresh : {out : List ℕ} → 400 ≤ length out → FreshLists places places places places out
+fresh h = record { starts_are = refl; ends_are = refl; marks_are = refl; labels_are = refl; fits = h }
 
 -- why the lists have places for the rows
-pub ruleset room_for_rows = (places_length, taken_length)
+pub ruleset room_for_rows = (places_length, length-take-le)
 
 module _ (tape : List ℕ) where
   judged_sound : (o : Option Fleet) → Sound (judged o places places places)

@@ -1,18 +1,17 @@
 // From the bytes of a fleet tape to the bytes that `hubplan` prints.
 #![tactic(auto)]
 
-ghost use Rattle.std.specs.Prelude.{◌≡◌, ◌+◌, ◌<◌, [], ◌∷◌, length};
+ghost use Rattle.std.specs.Prelude.{◌≡◌, ◌+◌, ◌<◌, length};
 ghost use Rattle.refusals.specs.Numbers.{number};
 ghost use Rattle.refusals.specs.Refusals.{answer_of};
 ghost use Rattle.table.specs.Tables.{lent};
 ghost use Rattle.table.specs.Planned.{answering, planned};
-ghost use Rattle.fleet_tape.specs.Reading.{fleet_read};
 ghost use Rattle.reply.specs.Lines.{decimal, word_line, row_line, row_lines, refused_word, printed};
-ghost use Rattle.reply.specs.Replied.{places, read_answer, replying, replied_with, replied, InFront, out_bytes};
+ghost use Rattle.reply.specs.Replied.{replying, replied_with, replied, InFront, out_bytes};
 ghost use Rattle.basics.specs.Lists.{Put};
-ghost use Rattle.reply.specs.Room.{Room, NumberRoom, RowRoom, LabelsRoom, WordRoom, Answerable, FreshLists};
+ghost use Rattle.reply.specs.Room.{Room, NumberRoom, RowRoom, LabelsRoom, WordRoom, Answerable};
 
-use basics::MAX_ROWS;
+use basics::{MAX_ROWS, put_byte};
 use refusals::Refusal;
 use table::{Rows, Setting, Table};
 
@@ -30,17 +29,8 @@ fn digit(n: usize) -> u8
     b'0' + (n as u8)
 }
 
-// Puts a byte at a place; the result is the place after it. Bytes that are computed are put one by one: an array of them would be one more that `reply` holds.
+// Puts bytes at a place; the result is the place after them. Bytes that are computed are put one by one: an array of them would be one more that `reply` holds.
 // C lends the output, and there is no heap: each part takes it and a place. An `fmt::Write` for `write!`, whose contract says the bytes, would be no plainer.
-fn put_byte(out: &mut [u8], place: usize, byte: u8) -> usize
-    requires { Room out.old place 1 }
-    ensures { Put out.old place (byte ∷ []) out.new result }
-{
-    out[place] = byte;
-    place + 1
-}
-
-// Puts bytes at a place.
 fn put(out: &mut [u8], place: usize, bytes: &[u8]) -> usize
     requires { Room out.old place (length bytes.now) }
     ensures { Put out.old place bytes.now out.new result }
@@ -130,46 +120,9 @@ fn reply_table(table: Table, labels: &mut [u8], out: &mut [u8], space: &mut [u8]
     put_answer(out, answer, labels)
 }
 
-// The reply to a tape that is not too long, over lent lists of 64 places.
-#[tactic(auto, using(crate::proofs::Replying::room_for_rows))]
-fn reply_lent(
-    tape: &[u8],
-    out: &mut [u8],
-    space: &mut [u8],
-    starts: &mut [u16],
-    ends: &mut [u16],
-    marks: &mut [u8],
-    labels: &mut [u8],
-) -> usize
-    requires { FreshLists starts.old ends.old marks.old labels.old out.old }
-    ensures { replying result out.new space.new ≡ replied_with (read_answer (fleet_read tape.now places places places) (length space.old)) out.old space.old }
-{
-    let report = match fleet_tape::read_fleet(tape, starts, ends, marks) {
-        Err(refusal) => return put_refused(out, refusal),
-        Ok(report) => report,
-    };
-    let hours = report.hours;
-    let rows = report.rows;
-    prove!(rows <= MAX_ROWS);
-    let table = Table {
-        setting: Setting {
-            kind: report.kind,
-            ticks: report.ticks,
-            // "`hubplan` uses 0".
-            gap: 0,
-            hours,
-        },
-        rows: Rows {
-            starts: &starts[..rows],
-            ends: &ends[..rows],
-            marks: &marks[..rows],
-        },
-    };
-    reply_table(table, &mut labels[..rows], out, space)
-}
-
 // THE REPLY. Writes what `hubplan` prints for a tape to the front of the output and returns its length. Result, output and working space are what the
 // definition `replied` yields, on every input. That the length lies within the output follows; it is said so that a caller can lend `&out[..n]`.
+#[tactic(auto, using(crate::proofs::Replying::room_for_rows))]
 pub fn reply(tape: &[u8], out: &mut [u8], space: &mut [u8]) -> usize
     ensures replied { replying result out.new space.new ≡ replied tape.now out.old space.old }
     ensures within { InFront result out.new }
@@ -180,17 +133,31 @@ pub fn reply(tape: &[u8], out: &mut [u8], space: &mut [u8]) -> usize
     if TAPE_BYTES < tape.len() {
         return put_refused(out, Refusal::Form);
     }
+    // Three arrays, since nothing is allocated: the reader fills the first places of each, as many as the report has rows.
     let mut starts = [0u16; MAX_ROWS];
     let mut ends = [0u16; MAX_ROWS];
     let mut marks = [0u8; MAX_ROWS];
+    let report = match fleet_tape::read_fleet(tape, &mut starts, &mut ends, &mut marks) {
+        Err(refusal) => return put_refused(out, refusal),
+        Ok(report) => report,
+    };
+    prove!(report.rows <= MAX_ROWS);
+    // A variable: the check of borrows takes no array straight from one field into another.
+    let hours = report.hours;
+    let table = Table {
+        setting: Setting {
+            kind: report.kind,
+            ticks: report.ticks,
+            // "`hubplan` uses 0".
+            gap: 0,
+            hours,
+        },
+        rows: Rows {
+            starts: &starts[..report.rows],
+            ends: &ends[..report.rows],
+            marks: &marks[..report.rows],
+        },
+    };
     let mut labels = [0u8; MAX_ROWS];
-    reply_lent(
-        tape,
-        out,
-        space,
-        &mut starts,
-        &mut ends,
-        &mut marks,
-        &mut labels,
-    )
+    reply_table(table, &mut labels[..report.rows], out, space)
 }

@@ -7,5 +7,5 @@ use std::io;
 use trial_report::print_group;
 
 fn main(rt: HostRuntime) -> io::Result<()> {
-    print_group(&rt, b"replies to fleet tapes", replies::all())
+    print_group(&rt, "replies to fleet tapes", replies::all())
 }

@@ -3,7 +3,7 @@ use Prim.Native.Nat.{ℕ, zero, suc, ◌+◌, ◌-◌, ◌≤◌, ◌<◌}
 use mathlib.Core.Path.{◌≡◌, refl, sym, ap, subst, ◌∙◌}
 use mathlib.Core.Logic.{◌⊎◌, inl, inr}
 use mathlib.Core.Bool.{Bool, true, false, cond}
-use mathlib.Core.List.{List, [], ◌∷◌, ◌++◌}
+use mathlib.Core.List.{List, [], ◌∷◌}
 use mathlib.Core.Option.{Option, none, some}
 use native.Mathlib.Nat.{le_refl, eq-or-lt_of_le}
 use native.Mathlib.Omega.{arith}
@@ -28,12 +28,9 @@ use Rattle.table.proofs.Rivals.{no_plan, planned_passed}
 
 -- ---- a row more
 
-length_more : (l : List ℕ) (x : ℕ) → length (l ++ x ∷ []) ≡ length l + 1
-length_more l x = length-append l (x ∷ [])
-
 module _ (t : Table) (new : Row) where
   pub rows_with_row : rows (with_row t new) ≡ rows t + 1
-  rows_with_row = omega (arith, length_more t.starts new.start)
+  rows_with_row = omega (arith, length-append t.starts (new.start ∷ []))
 
   module _ (e : length t.ends ≡ rows t) (m : length t.marks ≡ rows t) where
     -- the rows that were there are where they were
@@ -57,8 +54,8 @@ module _ (t : Table) (new : Row) where
     valid_with v w h =
         record {
           few = omega (arith, rows_with_row);
-          each_end = omega (arith, length_more t.ends new.end, rows_with_row);
-          each_mark = omega (arith, length_more t.marks new.mark, rows_with_row);
+          each_end = omega (arith, length-append t.ends (new.end ∷ []), rows_with_row);
+          each_mark = omega (arith, length-append t.marks (new.mark ∷ []), rows_with_row);
           setting = v.setting;
           row = λ i b. go i (eq-or-lt_of_le (omega (arith, rows_with_row)));
         }
@@ -87,8 +84,8 @@ module _ (t : Table) (new : Row) (p : Passed (table_looked t).refusal) where
       let f = then_looked (setting_refusal t.setting) 0 (rows_looked t) p in
       let r = rows_passed t f.1 in
       let check = row_check (with_row t new) in
-      let e : length (with_row t new).ends ≡ rows (with_row t new) = omega (arith, length_more t.ends new.end, rows_with_row t new, r.0.0) in
-      let m : length (with_row t new).marks ≡ rows (with_row t new) = omega (arith, length_more t.marks new.mark, rows_with_row t new, r.0.1) in
+      let e : length (with_row t new).ends ≡ rows (with_row t new) = omega (arith, length-append t.ends (new.end ∷ []), rows_with_row t new, r.0.0) in
+      let m : length (with_row t new).marks ≡ rows (with_row t new) = omega (arith, length-append t.marks (new.mark ∷ []), rows_with_row t new, r.0.1) in
       let before : (k : ℕ) → 0 ≤ k → k < 0 + rows t → Passed (check k) = λ k _ b. ap (λ (x : Row). number_of (row_refusal t.setting x)) (row_before t new r.0.0 r.0.1 k (omega arith)) ∙ r.1 k (omega arith) in
       let n : rows (with_row t new) - 0 ≡ suc (rows t) = omega (arith, rows_with_row t new) in
       rw (eq-eqb (number_of (setting_refusal t.setting)) 0 f.0, ahead_all (with_row t new) e m, n)
@@ -113,7 +110,7 @@ module _ (t : Table) (new : Row) (p : Passed (table_looked t).refusal) (room : r
       let r = (rows_passed t (then_looked (setting_refusal t.setting) 0 (rows_looked t) p).1).0 in
       let lists : Passed (lists_refusal t' before) =
       lengths_pass (rows t') (length t'.ends) (length t'.marks) (length before) (omega (arith, rows_with_row t new))
-      (omega (arith, length_more t.ends new.end, rows_with_row t new, r.0)) (omega (arith, length_more t.marks new.mark, rows_with_row t new, r.1)) l in
+      (omega (arith, length-append t.ends (new.end ∷ []), rows_with_row t new, r.0)) (omega (arith, length-append t.marks (new.mark ∷ []), rows_with_row t new, r.1)) l in
       sym (then_next {a = lists_refusal t' before} {r = lists_refusal t' before} refl lists refl) ∙ ap (λ x. space_refusal space then x) (looked_with t new p)
 
   -- and planning it: then 8

@@ -9,7 +9,8 @@ use native.Mathlib.Nat.{eq-or-lt_of_le}
 use lib.Dec.{leb, eqb}
 use lib.ListN.{length}
 use borrow.Author.Tests.{eq-eqb, eqb-true, eqb-false, leb-true}
-use Rattle.basics.proofs.Tests.{leb_iff, eqb_iff, and_iff}
+use Rattle.std.proofs.lemmas.Bool.Decides.{Decides-eqb}
+use Rattle.basics.proofs.Tests.{leb_iff, and_iff}
 use Rattle.window.specs.declared.Kind.{Kind}
 use Rattle.window.specs.declared.Kind.TheVariants.{Round, Run}
 use Rattle.marks.specs.Marks.{max_mark}
@@ -34,7 +35,7 @@ pub lengths_passed : (n e m l : ℕ) → Passed (lengths_refusal n e m l) → ((
 unfolding lengths_refusal
 lengths_passed n e m l p =
     let f = then_passed (asked (eqb e n && eqb m n && eqb l n) Lists) (asked (leb n 64) Rows) p in
-    let s = (and_iff (and_iff (eqb_iff e n) (eqb_iff m n)) (eqb_iff l n)).0 (asked_passed (eqb e n && eqb m n && eqb l n) Lists (omega arith) f.0) in
+    let s = (and_iff (and_iff (Decides-eqb e n) (Decides-eqb m n)) (Decides-eqb l n)).0 (asked_passed (eqb e n && eqb m n && eqb l n) Lists (omega arith) f.0) in
     ((s.0.0, s.0.1, s.1), leb-true n 64 (asked_passed (leb n 64) Rows (omega arith) f.1))
 
 pub lists_passed : (t : Table) (labels : List ℕ) → Passed (lists_refusal t labels) → ((length t.ends ≡ rows t) × (length t.marks ≡ rows t) × (length labels ≡ rows t)) × (rows t ≤ 64)
@@ -97,7 +98,7 @@ module _ (t : Table) where
   unfolding rows_looked
   rows_passed p =
       let f = cond_passed (is_even t) (look_from (row_check t) 0 (rows t)) (looked Lists 0) (omega arith) p in (
-        (and_iff (eqb_iff (length t.ends) (rows t)) (eqb_iff (length t.marks) (rows t))).0 f.0,
+        (and_iff (Decides-eqb (length t.ends) (rows t)) (Decides-eqb (length t.marks) (rows t))).0 f.0,
         λ i h. looked_passed (row_check t) 0 (rows t) f.1 i (omega arith) (omega arith),
       )
 

@@ -9,7 +9,8 @@ use borrow.Author.Tests.{eq-eqb}
 use lib.Dec.{leb, eqb}
 use lib.ListN.{length}
 use Rattle.basics.specs.Limits.{max_rows}
-use Rattle.basics.proofs.Tests.{leb_iff, eqb_iff, and_iff}
+use Rattle.std.proofs.lemmas.Bool.Decides.{Decides-eqb}
+use Rattle.basics.proofs.Tests.{leb_iff, and_iff}
 use Rattle.marks.specs.Marks.{max_mark}
 use Rattle.window.specs.declared.Row.{Row}
 use Rattle.window.specs.Windows.{is_window}
@@ -55,7 +56,7 @@ unfolding lengths_refusal
 lengths_pass n e m l few a b c =
     let even = eqb e n && eqb m n && eqb l n in
     then_passes (asked even Lists) (asked (leb n max_rows) Rows)
-    (asked_passes even Lists ((and_iff (and_iff (eqb_iff e n) (eqb_iff m n)) (eqb_iff l n)).1 ((a, b), c)))
+    (asked_passes even Lists ((and_iff (and_iff (Decides-eqb e n) (Decides-eqb m n)) (Decides-eqb l n)).1 ((a, b), c)))
     (asked_passes (leb n max_rows) Rows ((leb_iff n max_rows).1 few))
 
 module _ (t : Table) (valid : Valid t) where

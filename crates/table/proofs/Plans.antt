@@ -8,7 +8,8 @@ use native.Mathlib.Decide.{dec_le}
 use native.Mathlib.Omega.{arith}
 use lib.ListN.{length}
 use Rattle.basics.specs.Lists.{at}
-use Rattle.basics.proofs.Tests.{leb_iff, eqb_iff, and_iff, not_iff, imp_iff, every_iff}
+use Rattle.std.proofs.lemmas.Bool.Decides.{Decides-eqb}
+use Rattle.basics.proofs.Tests.{leb_iff, and_iff, not_iff, imp_iff, every_iff}
 use Rattle.marks.specs.Marks.{Must, Receiver1Only, Receiver2Only}
 use Rattle.marks.proofs.Allowing.{allows_iff, must_least, either_least}
 use Rattle.window.specs.declared.Kind.{Kind}
@@ -85,8 +86,8 @@ module _ (t : Table) (valid : Valid t) (labels : List ℕ) where
   fit_iff i h =
       and_iff (allowed_iff t.setting (row_at t i) (at labels i))
       (every_iff i (λ j k.
-      imp_iff (not_iff (eqb_iff (at labels i) 0))
-      (imp_iff (eqb_iff (at labels i) (at labels j))
+      imp_iff (not_iff (Decides-eqb (at labels i) 0))
+      (imp_iff (Decides-eqb (at labels i) (at labels j))
       (not_iff (clashes_iff t.setting (row_at t i) (row_at t j) (valid.row i h) (valid.row j (omega arith)))))))
 
   plan_fits : Plan t labels ↔ ((length labels ≡ rows t) × ((i : ℕ) → i < rows t → FitAt t labels i))
@@ -115,8 +116,8 @@ module _ (t : Table) (valid : Valid t) (labels : List ℕ) where
       tests =
           and_iff
           (and_iff
-          (and_iff (eqb_iff (length t.ends) (rows t)) (eqb_iff (length t.marks) (rows t)))
-          (eqb_iff (length labels) (rows t)))
+          (and_iff (Decides-eqb (length t.ends) (rows t)) (Decides-eqb (length t.marks) (rows t)))
+          (Decides-eqb (length labels) (rows t)))
           (every_iff (rows t) fit_iff)
 
 -- what `is_plan` promises, from what it computes

@@ -12,7 +12,7 @@ use lib.Dec.{leb, eqb}
 use lib.ListN.{length, drop, replicate, length-replicate, get_or-replicate, get_or-append}
 use lib.Seq.{drop-nil}
 use Rattle.basics.specs.Lists.{at}
-use Rattle.basics.proofs.Tests.{le_or_lt}
+use Rattle.std.proofs.lemmas.Bool.{cases_lt}
 use Rattle.refusals.specs.Refusals.{number_of, answered, passes, ◌then◌, Accepted, Space, NoPlan, Outcome}
 use Rattle.refusals.proofs.Refusals.{Passed, then_passed, asked_passed}
 use Rattle.table.specs.Tables.{Table}
@@ -52,7 +52,7 @@ module _ (t : Table) (before : List ℕ) (space : ℕ) where
 
     pub begins_3 : ((planned t before space).answer.refusal ≡ Space) ↔ (space < 4608)
     begins_3 = (
-      λ e. ⊎_elim (λ h. absurd ((never_3 h).not (ap number_of e))) (λ h. h) (le_or_lt 4608 space),
+      λ e. ⊎_elim (λ h. h) (λ h. absurd ((never_3 h).not (ap number_of e))) (cases_lt space 4608),
       λ h. ap (λ (p : Planned). p.answer.refusal) (refused_3 h),
     )
 

@@ -1,15 +1,15 @@
 // The checks of a table, in paper 01's order. Each says exactly what comes out for every input of every length.
-ghost use Rattle.std.specs.Prelude.{◌≡◌, ◌<◌};
+ghost use Rattle.std.specs.Prelude.{◌≡◌, ◌<◌, length};
 ghost use Rattle.table.specs.Tables.{lent};
 ghost use Rattle.table.specs.Checks.{lengths_refusal, ticks_refusal, is_hours, hours_refusal, gap_refusal, setting_refusal, row_refusal, rows_looked, table_looked};
 
-use crate::{Looked, Setting, Table};
+use crate::{Looked, Rows, Setting, Table};
 use basics::MAX_ROWS;
 use marks::MAX_MARK;
 use refusals::Refusal;
 use window::{Kind, MAX_GAP, Row};
 
-// Checks 1 and 2, by the lengths of the four lists.
+// Checks 1 and 2, by the lengths of the four lists. Of numbers, and `Rows` has a method too: the words of `bit_words` are of starts and ends alone, which make no `Rows`.
 #[tactic(auto, unfolding(crate::specs::Checks::lengths_refusal))]
 pub fn check_lists(starts: usize, ends: usize, marks: usize, labels: usize) -> Result<(), Refusal>
     ensures { result ≡ lengths_refusal starts ends marks labels }
@@ -21,6 +21,15 @@ pub fn check_lists(starts: usize, ends: usize, marks: usize, labels: usize) -> R
         return Err(Refusal::Rows);
     }
     Ok(())
+}
+
+impl Rows<'_> {
+    // Checks 1 and 2 of a table's rows, for which so many labels are lent.
+    pub fn check_lists(self, labels: usize) -> Result<(), Refusal>
+        ensures { result ≡ lengths_refusal (length self.entry.starts.now) (length self.entry.ends.now) (length self.entry.marks.now) labels }
+    {
+        check_lists(self.starts.len(), self.ends.len(), self.marks.len(), labels)
+    }
 }
 
 // Check 4.
@@ -68,6 +77,7 @@ pub fn check_gap(gap: u16) -> Result<(), Refusal>
 }
 
 // Checks 4, 5 and 14.
+#[tactic(auto, unfolding(crate::specs::Checks::setting_refusal))]
 pub fn check_setting(setting: Setting) -> Result<(), Refusal>
     ensures { result ≡ setting_refusal setting }
 {
@@ -76,7 +86,7 @@ pub fn check_setting(setting: Setting) -> Result<(), Refusal>
     check_gap(setting.gap)
 }
 
-// Checks 6 and 7 of one row.
+// Checks 6 and 7 of one row. The setting comes apart from it, as in `plan`: it stands beside many rows.
 #[tactic(auto, unfolding(crate::specs::Checks::row_refusal))]
 pub fn check_row(setting: Setting, row: Row) -> Result<(), Refusal>
     ensures { result ≡ row_refusal setting row }
@@ -116,6 +126,7 @@ pub fn check_rows(table: Table) -> Looked
 }
 
 // Checks 4, 5 and 14, and then the rows for 6 and 7.
+#[tactic(auto, unfolding(crate::specs::Checks::table_looked))]
 pub fn check_table(table: Table) -> Looked
     ensures { result ≡ table_looked (lent table.entry) }
 {

@@ -21,7 +21,7 @@ pub struct Setting {
     pub hours: [[u16; 2]; 2],
 }
 
-// What the checks of the rows report: whether the table passes, and how many rows were looked at.
+// What the checks of the rows report: whether the table passes, and how many rows were looked at, which counts on a refusal too: no Result of the rows. `refusal` is named as in the definitions.
 #[derive(Clone, Copy)]
 pub struct Looked {
     pub refusal: Result<(), Refusal>,

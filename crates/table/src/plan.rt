@@ -6,7 +6,7 @@ ghost use Rattle.table.specs.Tables.{lent, Plan, is_open, is_allowed, clashes, i
 use crate::{Setting, Table};
 use window::{Kind, Row};
 
-// Whether the receiver of a heard row is open for its window.
+// Whether the receiver of a heard row is open for its window. Setting and row come apart in the functions here: a setting stands beside many rows, and first in the other definitions.
 fn is_open(setting: Setting, row: Row, label: u8) -> bool
     requires { (1 ≤ label) × (label ≤ 2) }
     ensures { result ≡ is_open setting.kind setting.hours row label }
@@ -43,7 +43,8 @@ fn is_apart(setting: Setting, row: Row, label: u8, row2: Row, label2: u8) -> boo
     label == 0 || label != label2 || !is_clash(setting, row, row2)
 }
 
-// Whether row i is apart from the rows before it.
+// Whether row i is apart from the rows before it. A `for` here and in `is_plan`: with `all` the proof that its result is the definition's did not close.
+#[tactic(auto, using(basics::proofs::Tests::every_more), unfolding(basics::specs::Tests::every))]
 fn is_apart_before(table: Table, labels: &[u8], i: usize) -> bool
     requires { LabelIn (lent table) labels.now i }
     ensures { result ≡ every i (apart_at (lent table.entry) labels.now i) }

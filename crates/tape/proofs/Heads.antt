@@ -1,45 +1,45 @@
--- A command at a place of a tape: what it means that one begins there, and the words that follow.
+-- A command at the front of bytes: what it means that one stands there, and the bytes from a place on.
 use Prim.Native.Nat.{ℕ, zero, suc, ◌+◌, ◌≤◌, ◌<◌}
-use mathlib.Core.Path.{◌≡◌, sym, ap, ◌∙◌}
-use mathlib.Core.Logic.{◌↔◌}
-use mathlib.Core.Bool.{true, false}
+use mathlib.Core.Path.{◌≡◌, refl, sym, ap, ◌∙◌}
+use mathlib.Core.Logic.{◌↔◌, ◌≢◌}
+use mathlib.Core.Bool.{true, false, and-false}
 use mathlib.Core.List.{List, [], ◌∷◌, ◌++◌}
 use native.Mathlib.Nat.{add-zero, add_assoc, add-suc, suc-add}
 use native.Mathlib.Omega.{arith}
-use borrow.Author.Tests.{lt-ltb, le-ltb}
+use borrow.Author.Tests.{lt-ltb, le-ltb, ne_eqb}
 use lib.Dec.{eqb}
-use lib.ListN.{length, get_or, drop, length-drop}
+use lib.ListN.{length, get_or, drop}
 use lib.Seq.{get_or-drop, drop-cons}
-use Rattle.basics.proofs.Tests.{and_iff, ltb_iff, eqb_iff}
+use Rattle.std.proofs.lemmas.Bool.Decides.{Decides-ltb, Decides-eqb}
+use Rattle.basics.proofs.Tests.{and_iff}
 use Rattle.tape.specs.Commands.{operand_bytes, begins}
 use Rattle.tape.specs.Words.{word_at, Bytes}
 
 pub begins_iff : (c : ℕ) (s : List ℕ) → (begins c s ≡ true) ↔ ((operand_bytes c < length s) × (get_or s 0 0 ≡ c))
 unfolding begins
-begins_iff c s = and_iff (ltb_iff (operand_bytes c) (length s)) (eqb_iff (get_or s 0 0) c)
+begins_iff c s = and_iff (Decides-ltb (operand_bytes c) (length s)) (Decides-eqb (get_or s 0 0) c)
 
-module _ (s : List ℕ) (at : ℕ) where
-  pub first_at : get_or (drop at s) 0 0 ≡ get_or s at 0
-  first_at = rw (get_or-drop, add-zero)
+module _ (c : ℕ) (s : List ℕ) where
+  pub long : operand_bytes c < length s → begins c s ≡ eqb (get_or s 0 0) c
+  unfolding begins
+  long h = rw (lt-ltb (operand_bytes c) (length s) h) refl
 
-  pub word_at_drop : (i : ℕ) → word_at s (at + i) ≡ word_at (drop at s) i
-  word_at_drop i = simp (get_or-drop, add_assoc)
+  pub fits : operand_bytes c < length s → get_or s 0 0 ≡ c → begins c s ≡ true
+  fits h e = (begins_iff c s).1 (h, e)
 
-  module _ (c : ℕ) where
-    pub fits_at : at + operand_bytes c < length s → begins c (drop at s) ≡ eqb (get_or s at 0) c
-    unfolding begins
-    fits_at h = rw (lt-ltb (operand_bytes c) (length (drop at s)) (omega (arith, length-drop at s)), first_at)
+  pub short : length s ≤ operand_bytes c → begins c s ≡ false
+  unfolding begins
+  short h = rw (le-ltb (operand_bytes c) (length s) h)
 
-    pub short_at : length s ≤ at + operand_bytes c → begins c (drop at s) ≡ false
-    unfolding begins
-    short_at h = rw (le-ltb (operand_bytes c) (length (drop at s)) (omega (arith, length-drop at s)))
-
-    pub begins_at : begins c (drop at s) ≡ true → (at + operand_bytes c < length s) × (get_or s at 0 ≡ c)
-    begins_at e =
-        let b = (begins_iff c (drop at s)).0 e in
-        (omega (arith, length-drop at s, b.0), sym first_at ∙ b.1)
+  pub other : get_or s 0 0 ≢ c → begins c s ≡ false
+  unfolding begins
+  other n = rw (ne_eqb (get_or s 0 0) c n, and-false)
 
 -- ---- bytes
+
+-- the 16-bit operand at a place is that of the bytes from there on
+pub word_at_drop : (s : List ℕ) (at : ℕ) (i : ℕ) → word_at s (at + i) ≡ word_at (drop at s) i
+word_at_drop s at i = simp (get_or-drop, add_assoc)
 
 pub bytes_drop : (n : ℕ) (s : List ℕ) → Bytes s → Bytes (drop n s)
 bytes_drop n s h i = rw (get_or-drop n s i 0) (h (n + i))

@@ -1,5 +1,5 @@
 -- The rule of the table of operand widths, proved once, by one computed test.
-use Prim.Native.Nat.{ℕ, ◌≤◌, ◌<◌}
+use Prim.Native.Nat.{ℕ, ◌<◌}
 use mathlib.Core.Path.{◌≡◌, refl, ap}
 use mathlib.Core.Bool.{true, false, not, Bool, ◌||◌}
 use native.Mathlib.Omega.{arith}
@@ -8,7 +8,8 @@ use borrow.Author.Tests.{ne_eqb}
 use lib.ListN.{get_or}
 use lib.Dec.{eqb}
 use Rattle.basics.specs.Tests.{every}
-use Rattle.basics.proofs.Tests.{every_iff, imp_iff, eqb_iff, leb_iff}
+use Rattle.std.proofs.lemmas.Bool.Decides.{Decides-eqb}
+use Rattle.basics.proofs.Tests.{every_iff, imp_iff}
 use Rattle.tape.proofs.WidthTable.{widths}
 use Rattle.tape.specs.Commands.{operand_bytes, ROUND, RUN, RECEIVER, LISTEN, WINDOW, MUST, WINDOW1, MUST1, WINDOW2, MUST2, HOURS, STOP}
 
@@ -18,11 +19,7 @@ is_command b =
 
 pub widths_right : (b : ℕ) → b < 128 → get_or widths b 0 ≡ operand_bytes b
 unfolding operand_bytes every
-widths_right = (every_iff 128 (λ i h. eqb_iff (get_or widths i 0) (operand_bytes i))).0 refl
-
-pub widths_small : (b : ℕ) → b < 128 → get_or widths b 0 ≤ 8
-unfolding every
-widths_small = (every_iff 128 (λ i h. leb_iff (get_or widths i 0) 8)).0 refl
+widths_right = (every_iff 128 (λ i h. Decides-eqb (get_or widths i 0) (operand_bytes i))).0 refl
 
 -- past the table there is no command
 pub no_operands : (b : ℕ) → 127 < b → operand_bytes b ≡ 0
@@ -49,16 +46,8 @@ unfolding operand_bytes is_command every
 no_command b e = go (dec_lt b 128)
   where
     below : (i : ℕ) → i < 128 → not (is_command i) ≡ true → operand_bytes i ≡ 0
-    below = (every_iff 128 (λ i h. imp_iff (λ x. x, λ x. x) (eqb_iff (operand_bytes i) 0))).0 refl
+    below = (every_iff 128 (λ i h. imp_iff (λ x. x, λ x. x) (Decides-eqb (operand_bytes i) 0))).0 refl
 
     go : Dec (b < 128) → operand_bytes b ≡ 0
     go (yes h) = below b h (ap not e)
     go (no h) = no_operands b (omega arith)
-
--- no command has more than eight bytes of operands
-pub operands_few : (b : ℕ) → operand_bytes b ≤ 8
-operands_few b = go (dec_lt b 128)
-  where
-    go : Dec (b < 128) → operand_bytes b ≤ 8
-    go (yes h) = omega (arith, widths_right b h, widths_small b h)
-    go (no h) = omega (arith, no_operands b (omega arith))

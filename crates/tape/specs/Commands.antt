@@ -68,7 +68,3 @@ stop_last s = begins STOP s && eqb (length s) 1
 -- what follows a command with its operands
 abbrev pub after : ℕ → List ℕ → List ℕ
 after command s = drop (1 + operand_bytes command) s
-
--- the place after a command that stands at a place
-abbrev pub past : ℕ → ℕ → ℕ
-past command at = at + (1 + operand_bytes command)

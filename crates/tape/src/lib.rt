@@ -1,10 +1,11 @@
-// The commands of a tape with the widths of their operands, 16-bit operands as two bytes, and a command at a place of a tape.
+// The commands of a tape with the widths of their operands, and what stands at the front of the rest of a tape.
 #![tactic(auto)]
 
-ghost use Rattle.std.specs.Prelude.{◌≡◌, true, ◌+◌, drop};
-ghost use Rattle.tape.specs.Commands.{operand_bytes, begins, stop_last, past};
-ghost use Rattle.tape.specs.Words.{high_byte, low_byte, joined, word_at, Inside};
+ghost use Rattle.std.specs.Prelude.{◌≡◌, true, false, ◌+◌, MatchOption};
+ghost use Rattle.tape.specs.Commands.{operand_bytes, begins, stop_last, after};
+ghost use Rattle.tape.specs.Words.{word_at, Inside};
 
+// A command is a byte and no enum: a tape may hold any byte.
 pub const ROUND: u8 = 0x10;
 
 pub const RUN: u8 = 0x11;
@@ -32,7 +33,7 @@ pub const HOURS: u8 = 0x50;
 pub const STOP: u8 = 0x7F;
 
 // The bytes of operands by command; 0 also for a byte that is no command.
-const OPERAND_BYTES: [u8; 128] = [
+pub const OPERAND_BYTES: [u8; 128] = [
     0, 0, 0, 0, 0, 0, 0, 0, 0, 0, 0, 0, 0, 0, 0, 0, 2, // 10 ROUND
     2, // 11 RUN
     0, 0, 0, 0, 0, 0, 0, 0, 0, 0, 0, 0, 0, 0, 1, // 20 RECEIVER
@@ -60,42 +61,16 @@ pub fn operand_bytes(command: u8) -> usize
     }
 }
 
-// The first byte of a 16-bit operand.
-pub fn high_byte(n: u16) -> u8
-    ensures { result ≡ high_byte n }
+// The bytes after a command with its operands, where the command stands first and all bytes of its operands follow.
+#[tactic(auto, using(crate::proofs::Heads::fits, crate::proofs::Heads::short, crate::proofs::Heads::other, std::proofs::lemmas::List::take_rest))]
+pub fn after(tape: &[u8], command: u8) -> Option<&[u8]>
+    ensures { MatchOption result (begins command tape.now ≡ false) (λ rest. (begins command tape.now ≡ true) × (rest.now ≡ after command tape.now)) }
 {
-    n.to_be_bytes()[0]
-}
-
-// The second byte of a 16-bit operand.
-pub fn low_byte(n: u16) -> u8
-    ensures { result ≡ low_byte n }
-{
-    n.to_be_bytes()[1]
-}
-
-// The 16-bit operand of two bytes.
-pub fn join_bytes(high: u8, low: u8) -> u16
-    ensures { result ≡ joined high low }
-{
-    u16::from_be_bytes([high, low])
-}
-
-// Whether a command stands at a place, and all bytes of its operands follow.
-#[tactic(auto, using(crate::proofs::Heads::fits_at, crate::proofs::Heads::short_at))]
-pub fn begins(tape: &[u8], at: usize, command: u8) -> bool
-    ensures { result ≡ begins command (drop at tape.now) }
-{
-    at < tape.len() && operand_bytes(command) < tape.len() - at && tape[at] == command
-}
-
-// The place after a command that stands at a place with its operands.
-#[tactic(auto, using(crate::proofs::Heads::begins_at))]
-pub fn past(tape: &[u8], at: usize, command: u8) -> usize
-    requires { begins command (drop at tape.now) ≡ true }
-    ensures { result ≡ past command at }
-{
-    at + (1 + operand_bytes(command))
+    let operands = operand_bytes(command);
+    if tape.len() <= operands || tape[0] != command {
+        return None;
+    }
+    Some(&tape[1 + operands..])
 }
 
 // The 16-bit operand at a place.
@@ -103,13 +78,13 @@ pub fn word_at(tape: &[u8], at: usize) -> u16
     requires { Inside tape.now (at + 1) }
     ensures { result ≡ word_at tape.now at }
 {
-    join_bytes(tape[at], tape[at + 1])
+    u16::from_be_bytes([tape[at], tape[at + 1]])
 }
 
-// Whether STOP stands at a place and is the last byte.
-#[tactic(auto, using(crate::proofs::Heads::begins_at))]
-pub fn is_stop_at(tape: &[u8], at: usize) -> bool
-    ensures { result ≡ stop_last (drop at tape.now) }
+// Whether STOP is all that is left.
+#[tactic(auto, unfolding(crate::specs::Commands::begins, crate::specs::Commands::operand_bytes))]
+pub fn is_stop(tape: &[u8]) -> bool
+    ensures { result ≡ stop_last tape.now }
 {
-    begins(tape, at, STOP) && tape.len() - at == 1
+    matches!(tape, [STOP])
 }

@@ -6,8 +6,10 @@ use mathlib.Core.Bool.{true, false, false≢true}
 use mathlib.Core.List.{List, map}
 use native.Mathlib.Omega.{arith}
 use native.Mathlib.Decide.{dec_lt, ℕ_discrete}
+use native.Mathlib.Nat.{eq-or-lt_of_le, le_of_suc-le-suc}
 use lib.ListN.{length, set, length-map, length-set}
 use lib.Seq.{ext_get_or, get_or-set_same, get_or-set_other}
+use Rattle.std.proofs.lemmas.Bool.{cases_order}
 use Rattle.basics.specs.Lists.{at}
 use Rattle.labels.specs.Labels.{heard, place, Earlier, Assignment, Best}
 use Rattle.labels.specs.Permission.{permits, only, label_of}
@@ -17,18 +19,9 @@ use Rattle.tracks.proofs.Alike.{Alike, capped_alike}
 use Rattle.basics.proofs.Lists.{at_map}
 use Rattle.labels.proofs.Permissions.{permits_label, permits_only, only_permits, label_only, place_only, earlier_at}
 
--- a number is below another, or above it, or it is the other
-compared : (a b : ℕ) → (a < b) ⊎ ((a ≡ b) ⊎ (b < a))
-compared a b = go (dec_lt a b) (dec_lt b a)
-  where
-    go : Dec (a < b) → Dec (b < a) → (a < b) ⊎ ((a ≡ b) ⊎ (b < a))
-    go (yes h) k = inl h
-    go (no h) (yes k) = inr (inr k)
-    go (no h) (no k) = inr (inl (omega arith))
-
--- a place below i + 1 is below i or is i
+-- a place below i + 1 is below i or is i: the library's law with the sides exchanged, which would stand three times below
 last_or : (i j : ℕ) → j < suc i → (j < i) ⊎ (j ≡ i)
-last_or i j h = ⊎_elim inl (⊎_elim inr (λ k. absurd (omega arith))) (compared j i)
+last_or i j h = ⊎_elim inr inl (eq-or-lt_of_le (le_of_suc-le-suc h))
 
 -- the label that narrowed permissions leave row j
 abbrev fixed : List ℕ → ℕ → ℕ
@@ -134,13 +127,13 @@ module _ {n : ℕ} {clash : ℕ → ℕ → Type 0} {perms : List ℕ} {opt i : 
         under : Under n clash perms' best
         under = S.optimal.1
 
-        only_label : ((y : ℕ) → place x < place y → permits (at perms' i) y ≡ false) → (place (at best i) < place x) ⊎ ((place (at best i) ≡ place x) ⊎ (place x < place (at best i))) → at best i ≡ x
-        only_label f (inl h) = absurd (cannot_refused (N.earlier (at best i) h) (widened S under (omega arith)) S.optimal.2 (under_agrees S under (omega arith)) refl)
-        only_label f (inr (inl h)) = place_only (at best i) x (permits_label (at perms' i) (at best i) (under.allowed i inside)) N.label h
+        only_label : ((y : ℕ) → place x < place y → permits (at perms' i) y ≡ false) → (place (at best i) ≡ place x) ⊎ ((place (at best i) < place x) ⊎ (place x < place (at best i))) → at best i ≡ x
+        only_label f (inl h) = place_only (at best i) x (permits_label (at perms' i) (at best i) (under.allowed i inside)) N.label h
+        only_label f (inr (inl h)) = absurd (cannot_refused (N.earlier (at best i) h) (widened S under (omega arith)) S.optimal.2 (under_agrees S under (omega arith)) refl)
         only_label f (inr (inr h)) = absurd (false≢true (sym (f (at best i) h) ∙ under.allowed i inside))
 
         go : CanHave (Under n clash) opt perms' i (at perms' i) x → (l : List ℕ) × Under n clash perms' l × (suc (heard l) ≡ opt) × (at l i ≡ x)
-        go (inl f) = (best, under, S.optimal.2, only_label f (compared (place (at best i)) (place x)))
+        go (inl f) = (best, under, S.optimal.2, only_label f (cases_order (place (at best i)) (place x)))
         go (inr (p, K)) =
             let w = K.reached some in
             let A = under_set perms' within x w.1 inside p in
@@ -178,9 +171,9 @@ module _ {n : ℕ} {clash : ℕ → ℕ → Type 0} {perms : List ℕ} {opt i : 
         agrees l f j h = f j h ∙ sym (before j h)
 
         compare_row : {l : List ℕ} → Under n clash perms l → suc (heard l) ≡ opt → Agrees perms' i l
-            → (place (at l i) < place x) ⊎ ((place (at l i) ≡ place x) ⊎ (place x < place (at l i))) → Agrees (set perms' i (only x)) (suc i) l ⊎ Later (set perms' i (only x)) (suc i) l
-        compare_row {l} A e f (inl h) = absurd (cannot_refused (N.earlier (at l i) h) A e f refl)
-        compare_row {l} A e f (inr (inl h)) = inl (λ j k. go (last_or i j k))
+            → (place (at l i) ≡ place x) ⊎ ((place (at l i) < place x) ⊎ (place x < place (at l i))) → Agrees (set perms' i (only x)) (suc i) l ⊎ Later (set perms' i (only x)) (suc i) l
+        compare_row {l} A e f (inr (inl h)) = absurd (cannot_refused (N.earlier (at l i) h) A e f refl)
+        compare_row {l} A e f (inl h) = inl (λ j k. go (last_or i j k))
           where
             go : {j : ℕ} → (j < i) ⊎ (j ≡ i) → at l j ≡ fixed (set perms' i (only x)) j
             go {j} (inl k) = agrees l f j k
@@ -188,7 +181,7 @@ module _ {n : ℕ} {clash : ℕ → ℕ → Type 0} {perms : List ℕ} {opt i : 
         compare_row {l} A e f (inr (inr h)) = inr (record { row = i; below = omega arith; agrees = agrees l f; later = rw own h })
 
         first : {l : List ℕ} → Under n clash perms l → suc (heard l) ≡ opt → Agrees perms' i l ⊎ Later perms' i l → Agrees (set perms' i (only x)) (suc i) l ⊎ Later (set perms' i (only x)) (suc i) l
-        first {l} A e (inl f) = compare_row A e f (compared (place (at l i)) (place x))
+        first {l} A e (inl f) = compare_row A e f (cases_order (place (at l i)) (place x))
         first {l} A e (inr L) =
             inr (record {
               row = L.row;

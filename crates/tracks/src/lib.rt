@@ -1,7 +1,7 @@
 // The best two-track assignment of arcs under permissions.
 #![tactic(auto)]
 
-ghost use Rattle.std.specs.Prelude.{◌≡◌, true, false, ℕ, ◌≤◌, ◌<◌, length, drop, set};
+ghost use Rattle.std.specs.Prelude.{◌≡◌, false, ℕ, ◌≤◌, ◌<◌, length, drop, set};
 ghost use Rattle.line.specs.Cells.{cell_bytes, core_bytes};
 ghost use Rattle.basics.specs.Lists.{at};
 ghost use Rattle.labels.specs.Labels.{place};
@@ -14,6 +14,9 @@ ghost use Rattle.tracks.specs.Narrowing.{Ordered, Chosen, Narrowed, Tried, RowRe
 use basics::MAX_ROWS;
 use labels::permission::{may_have, only_label};
 use pairs::OrderedRows;
+
+// That the bytes of the space after the core's are as they were is a clause of each function that writes to it, here, in `best_plan` and in `candidates`: a relation of what it
+// held before to what it holds after, which no field of a struct can state.
 
 // Whether a permission permits a label that comes after this one, in the order 1, 2, 0.
 fn may_have_later(perm: u8, label: u8) -> bool

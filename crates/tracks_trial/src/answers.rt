@@ -20,7 +20,7 @@ fn labels(rows: usize, permissions: &[u8; 8]) -> [u8; 8] {
     std::array::from_fn(|i| if i < rows { label(permissions[i]) } else { 0 })
 }
 
-// What `solve`, one of the functions of `tracks`, answers on a table: 0 for no assignment, else one more than it hears. The labels are those of an assignment only if it assigns.
+// What `solve`, one of the functions of `tracks`, finds on a table: it answers 0 for no assignment, else one more than it hears. The labels are those of an assignment only if it assigns.
 pub fn solved<F>(t: Table, solve: F) -> Option<Plan>
 where
     F: Fn(u16, &mut [u16], &mut [u16], &mut [u8], &mut [u8]) -> u8,

@@ -2,12 +2,12 @@
 ghost use Rattle.std.specs.Prelude.{◌+◌, ◌<◌, ◌≤◌, length};
 ghost use Rattle.tracks_trial.specs.Drawn.{Within, Drawn};
 
-use brute_force::random;
+use brute_force::random::{self, eight_after, from};
 
 #[derive(Clone, Copy)]
 pub struct Table {
     pub circle: u16,
-    // the first of the eight places are rows; `tracks` is lent a slice of each list
+    // the first of the eight places are rows: nothing is allocated. Three lists, since `tracks` is lent a slice of each and writes it.
     pub rows: usize,
     pub starts: [u16; 8],
     pub lengths: [u16; 8],
@@ -17,25 +17,12 @@ pub struct Table {
     ghost drawn: { Drawn circle rows starts lengths permissions },
 }
 
-// One of the `count` numbers from `low` on; `random::from` promises no bound.
-fn from(state: u64, low: u16, count: u16) -> u16
+// Such a number from each of these states.
+fn eight(states: [u64; 8], low: u16, count: u16) -> [u16; 8]
     requires { (0 < count) × (low + count < 65536) }
-    ensures { (low ≤ result) × (result < low + count) }
+    ensures { Within low (low + count) (length result) result }
 {
-    low + random::below(state, count)
-}
-
-// Fills a list with such numbers; the result is the state after them.
-fn fill(list: &mut [u16], state: u64, low: u16, count: u16) -> u64
-    requires { (0 < count) × (low + count < 65536) }
-    ensures { Within low (low + count) (length list.new) list.new }
-{
-    let mut s = state;
-    for i in 0..list.len() {
-        s = random::next(s);
-        list[i] = from(s, low, count);
-    }
-    s
+    states.map(|s| from(s, low, count))
 }
 
 // Mostly all three labels, often one of them missing, sometimes one alone, now and then none.
@@ -52,36 +39,21 @@ fn permission(state: u64) -> u8 {
     }
 }
 
-// Fills a list with permissions; the result is the state after them.
-fn permit(list: &mut [u8], state: u64) -> u64 {
-    let mut s = state;
-    for place in list {
-        s = random::next(s);
-        *place = permission(s);
-    }
-    s
-}
-
 // A table of at most 7 rows on at most 24 ticks, the longest of its arcs drawn first, so that arcs of all lengths up to the whole circle come up.
 pub fn draw(state: u64) -> Table {
-    let a = random::next(state);
+    let [a, b, c, ..] = eight_after(state);
     let circle = from(a, 1, 24);
-    let b = random::next(a);
-    let rows = random::below(b, 8) as usize;
-    let c = random::next(b);
+    let rows = usize::from(random::below(b, 8));
     let longest = from(c, 1, circle);
-    let mut starts = [0; 8];
-    let d = fill(&mut starts, c, 0, circle);
-    let mut lengths = [0; 8];
-    let e = fill(&mut lengths, d, 1, longest);
-    let mut permissions = [0; 8];
-    let state = permit(&mut permissions, e);
+    let d = eight_after(c);
+    let e = eight_after(d[7]);
+    let f = eight_after(e[7]);
     Table {
         circle,
         rows,
-        starts,
-        lengths,
-        permissions,
-        state,
+        starts: eight(d, 0, circle),
+        lengths: eight(e, 1, longest),
+        permissions: f.map(permission),
+        state: f[7],
     }
 }

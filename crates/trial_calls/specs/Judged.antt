@@ -1,17 +1,25 @@
--- Inner: What is to stand in a list after a call, by numbers alone: nothing here is said by the product's definitions.
-use Rattle.std.specs.Prelude.{ℕ, Bool, cond, List, length, ◌==◌, nat_eq, nat_lt}
-use Rattle.basics.specs.Lists.{at}
-use Rattle.basics.specs.Tests.{every}
+-- Inner: What is to stand in a list after a call, by numbers alone: of the product's definitions only the numbers of the refusals are used.
+use Rattle.std.specs.Prelude.{ℕ, Bool, ◌&&◌, Option, None, Some, Result, Ok, Err, List, length, take, drop, ◌==◌, cond, nat_eq}
+use Rattle.std.specs.List.{list_all}
+use Rattle.std.specs.Cmp.Lexicographic.{pointwise}
+use Rattle.refusals.specs.declared.Refusal.{Refusal}
+use Rattle.refusals.specs.Numbers.{number}
 
--- at the first places what is to be written, and after them what every list holds before a call
-abbrev pub written_at : List ℕ → ℕ → ℕ
-written_at first i = cond (nat_lt i (length first)) (at first i) 90
+-- what a call answers, a refusal as its number
+abbrev pub numbered : {A : Type 0} → Result A Refusal → Result A ℕ
+numbered (Ok answer) = Ok answer
+numbered (Err refusal) = Err (number refusal)
 
--- every place of a list holds that
-unfoldable pub is_written : List ℕ → List ℕ → Bool
-unfolding every
-is_written list first = every (length list) (λ i. nat_eq (at list i) (written_at first i))
+-- the first places hold what is to be written, as far as there are places, and those after them what all held before a call
+abbrev pub are_written : {A : Type 0} → (A → A → Bool) → List A → List A → A → Bool
+are_written eq list written before =
+    pointwise eq (take (length written) list) (take (length list) written) && list_all (λ place. eq place before) (drop (length written) list)
 
--- so many bytes of the working space are cleared by a call with this number: an accepted one, and 8
-abbrev pub cleared : ℕ → ℕ
-cleared number = cond (number == 0) 4608 (cond (number == 8) 4608 0)
+-- the same of numbers, in a list that held 90 at each place
+abbrev pub is_written : List ℕ → List ℕ → Bool
+is_written list written = are_written nat_eq list written 90
+
+-- so many bytes of the working space are cleared by a call that is accepted, and by one that is refused by this number: 8 clears the same
+abbrev pub cleared : Option ℕ → ℕ
+cleared None = 4608
+cleared (Some refusal) = cond (refusal == 8) 4608 0

@@ -1,2 +1,3 @@
 -- What the contracts of the crate `trial_calls` cite.
+pub mod Drawn
 pub mod Judged

@@ -2,6 +2,8 @@
 #![tactic(auto)]
 
 ghost use Rattle.std.specs.Prelude.{◌≡◌, ◌+◌, ◌%◌, ◌^◌, if◌then◌else◌};
+ghost use Rattle.std.specs.List.{fold};
+ghost use Rattle.trial_report.specs.Groups.{with_case};
 
 use std::io;
 
@@ -12,21 +14,38 @@ pub fn more(count: u32, fact: bool) -> u32
     if fact { count.wrapping_add(1) } else { count }
 }
 
+// How many calls were refused by each number of the papers.
+#[derive(Clone, Copy, Default)]
+pub struct Refusals {
+    counts: [u32; 17],
+}
+
+impl Refusals {
+    // One call more, refused by a number or accepted.
+    pub fn with_call(self, refusal: Option<u8>) -> Refusals {
+        let number = refusal.map(usize::from);
+        Refusals {
+            counts: std::array::from_fn(|i| more(self.counts[i], number == Some(i))),
+        }
+    }
+
+    pub fn by(self, number: usize) -> u32 {
+        self.counts.get(number).copied().unwrap_or(0)
+    }
+}
+
 // A line of words and a number.
-pub fn print(rt: &impl Print, words: &[u8], n: u32) -> io::Result<()> {
-    rt.write_all(words)?;
-    println!(rt; "{n}")
+pub fn print(rt: &impl Print, words: &str, n: u32) -> io::Result<()> {
+    println!(rt; "{words}{n}")
 }
 
 // A line of words and two numbers.
-pub fn print_two(rt: &impl Print, words: &[u8], n: u32, words2: &[u8], n2: u32) -> io::Result<()> {
-    rt.write_all(words)?;
-    print!(rt; "{n}")?;
-    rt.write_all(words2)?;
-    println!(rt; "{n2}")
+pub fn print_two(rt: &impl Print, words: &str, n: u32, words2: &str, n2: u32) -> io::Result<()> {
+    println!(rt; "{words}{n}{words2}{n2}")
 }
 
-// The cases of a group that were run, and how many of them differ from what is right.
+// The cases of a group that were run, and how many of them differ from what is right. A function of cases takes the group so far and gives it with its own, so that
+// the functions `all` of the programs are lists of calls: an array of functions would be no shorter.
 #[derive(Clone, Copy, Default)]
 pub struct Group {
     pub cases: u32,
@@ -36,17 +55,25 @@ pub struct Group {
 impl Group {
     // One case more, which differs if it is not right.
     pub fn with_case(self, right: bool) -> Group
-        ensures { result ≡ record { cases = (self.cases + 1) % 2 ^ 32; differ = (if right then self.differ else (self.differ + 1) % 2 ^ 32) } }
+        ensures { result ≡ with_case self right }
     {
         Group {
             cases: more(self.cases, true),
             differ: more(self.differ, !right),
         }
     }
+
+    // One case more for each of these.
+    pub fn with_cases(self, rights: &[bool]) -> Group
+        ensures { result ≡ fold with_case self rights.now }
+    {
+        rights
+            .iter()
+            .fold(self, |group, right| group.with_case(*right))
+    }
 }
 
 // A line for a group.
-pub fn print_group(rt: &impl Print, words: &[u8], group: Group) -> io::Result<()> {
-    rt.write_all(words)?;
-    println!(rt; ": cases {}, differ {}", group.cases, group.differ)
+pub fn print_group(rt: &impl Print, words: &str, group: Group) -> io::Result<()> {
+    println!(rt; "{words}: cases {}, differ {}", group.cases, group.differ)
 }

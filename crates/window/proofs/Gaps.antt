@@ -7,7 +7,8 @@ use mathlib.Core.Bool.{Bool, true, cond}
 use native.Mathlib.Omega.{arith}
 use lib.Dec.{ltb}
 use borrow.Author.Tests.{ltb-true, lt-ltb, le-leb, lt-leb}
-use Rattle.basics.proofs.Tests.{Test, pass, fail, test, leb_iff, ltb_iff, and_iff, or_iff}
+use Rattle.std.proofs.lemmas.Bool.Decides.{Decides-ltb}
+use Rattle.basics.proofs.Tests.{Test, pass, fail, test, leb_iff, and_iff, or_iff}
 use Rattle.window.specs.declared.Kind.{Kind}
 use Rattle.window.specs.declared.Kind.TheVariants.{Round, Run}
 use Rattle.window.specs.Windows.{walk, Covers, Overlap, Window, covers, overlaps}
@@ -34,7 +35,7 @@ near_ahead Round R g e t x = go (test e t) x
     go : {b : Bool} → Test e t b → ltb (cond b t (t + R)) (e + g) ≡ true → Ahead R g e t Round
     go (pass h) x = on h (ltb-true t (e + g) x)
     go (fail h) x = past h (ltb-true (t + R) (e + g) x)
-near_ahead Run R g e t x = let f = (and_iff (leb_iff e t) (ltb_iff t (e + g))).0 x in on f.0 f.1
+near_ahead Run R g e t x = let f = (and_iff (leb_iff e t) (Decides-ltb t (e + g))).0 x in on f.0 f.1
 
 pub ahead_near : (kind : Kind) (R g e t : ℕ) → Ahead R g e t kind → is_near kind R g e t ≡ true
 unfolding is_near

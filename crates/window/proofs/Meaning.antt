@@ -2,13 +2,15 @@
 use Prim.Native.Nat.{ℕ, zero, suc, ◌+◌, ◌-◌, ◌≤◌, ◌<◌}
 use mathlib.Core.Path.{◌≡◌, refl, ◌∙◌, ap, sym}
 use mathlib.Core.Logic.{◌≢◌, ◌↔◌, ◌⊎◌, inl, inr, ⊎_elim}
-use mathlib.Core.Bool.{Bool, true, false, cond, ◌&&◌, ◌||◌, false≢true, or-true}
+use mathlib.Core.Bool.{Bool, true, cond, ◌&&◌, ◌||◌, false≢true, or-true}
 use native.Mathlib.Omega.{arith}
 use native.Mathlib.Decide.{ℕ_discrete}
 use native.Mathlib.Nat.{le_of_lt}
 use lib.Dec.{leb, ltb}
 use borrow.Author.Tests.{ltb-true, lt-ltb, le-ltb, le-leb, eq-eqb, ne_eqb}
-use Rattle.basics.proofs.Tests.{Test, pass, fail, test, bool_ext, ltb_iff, and_iff}
+use Rattle.std.proofs.lemmas.Bool.{or_cases}
+use Rattle.std.proofs.lemmas.Bool.Decides.{Decides-ltb}
+use Rattle.basics.proofs.Tests.{Test, pass, fail, test, bool_ext, and_iff}
 use Rattle.window.specs.declared.Kind.{Kind}
 use Rattle.window.specs.declared.Kind.TheVariants.{Round, Run}
 use Rattle.window.specs.Ticks.{Ticks, distance}
@@ -175,10 +177,6 @@ share {s} {e} {s'} {e'} x y = go (test s s')
     go (pass h) = meet h x y
     go (fail h) = ⊎_elim inr inl (meet (le_of_lt h) y x)
 
-or_cases : (x y : Bool) → (x || y) ≡ true → (x ≡ true) ⊎ (y ≡ true)
-or_cases true y e = inl refl
-or_cases false y e = inr e
-
 pub overlaps_iff : (kind : Kind) (R s e s' e' : ℕ) → Window kind R s e → Window kind R s' e' → (overlaps s e s' e' ≡ true) ↔ Overlap kind R s e s' e'
 unfolding overlaps
 overlaps_iff kind R s e s' e' v w = (there, back)
@@ -286,7 +284,7 @@ lies_iff kind R s e t = (
 )
   where
     tests : (lies_in kind R s e t ≡ true) ↔ ((Window kind R s e × (t < R)) × (ltb (distance R s t) (ticks_in kind R s e) ≡ true))
-    tests = and_iff (and_iff (window_iff kind R s e) (ltb_iff t R)) (λ x. x, λ x. x)
+    tests = and_iff (and_iff (window_iff kind R s e) (Decides-ltb t R)) (λ x. x, λ x. x)
 
 pub lies_meaning : {r : Bool} {kind : Kind} {R s e t : ℕ} → r ≡ lies_in kind R s e t → (r ≡ true) ↔ (Window kind R s e × (t < R) × Covers kind R s e t)
 lies_meaning {kind = kind} {R = R} {s = s} {e = e} {t = t} q = rw q (lies_iff kind R s e t)

@@ -146,7 +146,8 @@ pub fn distance(ticks: u16, start: u16, tick: u16) -> u16
     }
 }
 
-// Whether fewer than `gap` ticks lie between the end of a window and the start of another. Of any numbers, so that the sums take 32 bits.
+// Whether fewer than `gap` ticks lie between the end of a window and the start of another. Of any numbers, so that the sums take 32 bits. Kind and R, and g where it counts, come
+// one by one here and in the methods above: they are fields of `table::Setting`, and a struct of two or three of them within it would stand between each definition and the papers' names.
 #[tactic(auto, unfolding(crate::specs::Gaps::is_near))]
 fn is_near(kind: Kind, ticks: u16, gap: u16, end: u16, start: u16) -> bool
     ensures { result ≡ is_near kind ticks gap end start }

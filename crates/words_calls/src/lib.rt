@@ -1,156 +1,122 @@
 // Calls of `bit_words`, each judged whole: the refusal's number, the count, the words, every place of the list that is written.
-// Product code has a part in each call: `refusals::number` gives the number of its refusal, and a setting is of the table's own type.
+// Product code has a part in each call: `u8::from` gives the number of its refusal, and a setting is of the table's own type.
+// What is expected of a call is what it gives, or the papers' number of its refusal: the product's names have no part in it.
 #![tactic(auto)]
 
 ghost use Rattle.std.specs.Prelude.{◌≡◌, true, ◌↔◌};
-ghost use Rattle.refusals.specs.Refusals.{answer_of};
-ghost use Rattle.bit_words.specs.Words.{words_given, must_given};
-ghost use Rattle.trial_calls.specs.Judged.{written_at, is_written};
-ghost use Rattle.words_calls.specs.Judged.{WordsRight, MustRight, LabelsRight, ClashesRight};
+ghost use Rattle.trial_calls.specs.Judged.{numbered};
+ghost use Rattle.words_calls.specs.Judged.{words_of, words_numbered, LabelsRight, ClashesRight};
 
 use bit_words::LabelWords;
 use refusals::Refusal;
 use table::Setting;
 use trial_calls::BEFORE;
 
-// What labels are to be as words: a refusal's number, 0 for accepted, the number heard, and the two words.
-#[derive(Clone, Copy, Default)]
+// What labels are as words: the number heard, and the two words.
+#[derive(Clone, Copy, Default, PartialEq, Eq)]
 pub struct Words {
-    pub number: u8,
     pub count: usize,
     pub heard: u64,
     pub receiver: u64,
 }
 
-// What marks are to be as a word.
-#[derive(Clone, Copy, Default)]
-pub struct Must {
-    pub number: u8,
-    pub word: u64,
+// Two words that are to be made into labels, for so many rows.
+#[derive(Clone, Copy)]
+pub struct RowWords {
+    pub heard: u64,
+    pub receiver: u64,
+    pub rows: usize,
+}
+
+impl From<LabelWords> for Words {
+    ghost from_gives = { λ made words. words ≡ words_of made };
+
+    fn from(made: LabelWords) -> Words {
+        Words {
+            count: made.count(),
+            heard: made.heard,
+            receiver: made.receiver,
+        }
+    }
 }
 
 // ---- what a call gave, judged
 
-fn are_words(made: Result<LabelWords, Refusal>, right: Words) -> bool
-    ensures { (result ≡ true) ↔ WordsRight (words_given made) right }
+fn are_words(made: Result<LabelWords, Refusal>, right: Result<Words, u8>) -> bool
+    ensures { (result ≡ true) ↔ (words_numbered made ≡ right) }
 {
-    match made {
-        Ok(words) => {
-            right.number == 0
-                && words.count == right.count
-                && words.heard == right.heard
-                && words.receiver == right.receiver
-        }
-        Err(refusal) => {
-            u8::from(refusal) == right.number
-                && right.count == 0
-                && right.heard == 0
-                && right.receiver == 0
-        }
-    }
+    made.map(Words::from).map_err(u8::from) == right
 }
 
-fn is_must(made: Result<u64, Refusal>, right: Must) -> bool
-    ensures { (result ≡ true) ↔ MustRight (must_given made) right }
+// As `trial_calls::is_answer`, which is of counts: one function of both would go by the `eq` of any type, and no longer say that what was made is what is right.
+fn is_must(made: Result<u64, Refusal>, right: Result<u64, u8>) -> bool
+    ensures { (result ≡ true) ↔ (numbered made ≡ right) }
 {
-    match made {
-        Ok(word) => right.number == 0 && word == right.word,
-        Err(refusal) => u8::from(refusal) == right.number && right.word == 0,
-    }
+    made.map_err(u8::from) == right
 }
 
-// Whether the labels stand at the first places of the list and the other places are as they were.
+// Whether the count or the refusal is right, the labels stand at the first places of the list, and the other places are as they were.
 fn are_labels(
     answer: Result<usize, Refusal>,
     list: &[u8],
-    number: u8,
-    count: usize,
+    right: Result<usize, u8>,
     labels: &[u8],
 ) -> bool
-    ensures { (result ≡ true) ↔ LabelsRight (answer_of answer) list.now number count labels.now }
+    ensures { (result ≡ true) ↔ LabelsRight answer list.now right labels.now }
 {
-    trial_calls::is_answer(answer, number, count) && trial_calls::is_written(list, labels)
+    trial_calls::is_answer(answer, right) && trial_calls::is_written(list, labels)
 }
 
-// What is to stand at a place of a list whose first places are written. This and `is_written` have twins for bytes in `trial_calls`: the contracts speak of numbers,
-// which the items of a type parameter are not.
-fn written_at(first: &[u64], i: usize) -> u64
-    ensures { result ≡ written_at first.now i }
+// The same of words and a check.
+fn are_clashes(
+    outcome: Result<(), Refusal>,
+    list: &[u64],
+    right: Result<(), u8>,
+    words: &[u64],
+) -> bool
+    ensures { (result ≡ true) ↔ ClashesRight outcome list.now right words.now }
 {
-    if i < first.len() {
-        first[i]
-    } else {
-        BEFORE as u64
-    }
-}
-
-// Whether the first places of a list are written as they are to be and the others are as they were.
-fn is_written(list: &[u64], first: &[u64]) -> bool
-    ensures { result ≡ is_written list.now first.now }
-{
-    for i in 0..list.len() {
-        if list[i] != written_at(first, i) {
-            return false;
-        }
-    }
-    true
-}
-
-// Whether the words stand at the first places of the list and the other places are as they were.
-fn are_clashes(outcome: Result<(), Refusal>, list: &[u64], number: u8, words: &[u64]) -> bool
-    ensures { (result ≡ true) ↔ ClashesRight outcome list.now number words.now }
-{
-    refusals::number(outcome) == number && is_written(list, words)
+    outcome.map_err(u8::from) == right && trial_calls::are_written(list, words, BEFORE.into())
 }
 
 // ---- calls. Each list has places more than the most that a call is lent, so that a step beyond the lent ones is seen.
 
-pub fn gives_words(labels: &[u8], right: Words) -> bool {
+pub fn gives_words(labels: &[u8], right: Result<Words, u8>) -> bool {
     are_words(bit_words::words_of(labels), right)
 }
 
-pub fn gives_must(marks: &[u8], right: Must) -> bool {
+pub fn gives_must(marks: &[u8], right: Result<u64, u8>) -> bool {
     is_must(bit_words::must_of(marks), right)
 }
 
-fn labels_lent(
-    heard: u64,
-    receiver: u64,
-    list: &mut [u8],
-    places: usize,
-) -> Result<usize, Refusal> {
-    let n = places.min(list.len());
-    bit_words::labels_of(heard, receiver, &mut list[..n])
-}
-
-// Whether words, for so many rows, give the number and the labels, none on a refusal, and as count how many of the labels are 1 or 2.
-pub fn gives_labels(heard: u64, receiver: u64, rows: usize, number: u8, labels: &[u8]) -> bool {
+// Whether words give the labels, and as count how many of them are 1 or 2, or are refused by the number.
+pub fn gives_labels(words: RowWords, right: Result<&[u8], u8>) -> bool {
     let mut list = [BEFORE; 68];
-    let answer = labels_lent(heard, receiver, &mut list, rows);
-    are_labels(answer, &list, number, trial_calls::heard(labels), labels)
+    let lent = &mut list[..words.rows.min(68)];
+    let RowWords {
+        heard,
+        receiver,
+        ..
+    } = words;
+    let answer = bit_words::labels_of(LabelWords { heard, receiver }, lent);
+    are_labels(
+        answer,
+        &list,
+        right.map(trial_calls::heard),
+        right.unwrap_or(&[]),
+    )
 }
 
-fn clashes_lent(
-    setting: Setting,
-    starts: &[u16],
-    ends: &[u16],
-    list: &mut [u64],
-    places: usize,
-) -> Result<(), Refusal> {
-    let n = places.min(list.len());
-    bit_words::clashes::clash_words(setting, starts, ends, &mut list[..n])
-}
-
-// Whether windows, with so many places for words, give the number and the words; none on a refusal.
+// Whether windows, with so many places for words, give the words, or are refused by the number.
 pub fn gives_clashes(
     setting: Setting,
     starts: &[u16],
     ends: &[u16],
     places: usize,
-    number: u8,
-    words: &[u64],
+    right: Result<&[u64], u8>,
 ) -> bool {
-    let mut list = [BEFORE as u64; 68];
-    let outcome = clashes_lent(setting, starts, ends, &mut list, places);
-    are_clashes(outcome, &list, number, words)
+    let mut list = [BEFORE.into(); 68];
+    let lent = &mut list[..places.min(68)];
+    let outcome = bit_words::clashes::clash_words(setting, starts, ends, lent);
+    are_clashes(outcome, &list, right.map(|_| ()), right.unwrap_or(&[]))
 }

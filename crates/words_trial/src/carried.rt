@@ -1,8 +1,7 @@
 // Labels made into words and back, and words into labels and back, with a count of what was met.
 use crate::expected;
-use trial_calls::first;
 use trial_report::{Group, more};
-use words_calls::{Words, gives_labels, gives_words};
+use words_calls::{RowWords, Words, gives_labels, gives_words};
 
 #[derive(Clone, Copy, Default)]
 pub struct Tally {
@@ -23,68 +22,98 @@ pub struct Met {
 }
 
 impl Met {
-    fn with_number(self, number: u8) -> Met {
+    // One call more, with the number of its refusal.
+    fn with_call(self, refusal: Option<u8>) -> Met {
         Met {
-            carried: more(self.carried, number == 0),
-            over: more(self.over, number == 2),
-            not_carried: more(self.not_carried, number == 9),
+            carried: more(self.carried, refusal.is_none()),
+            over: more(self.over, refusal == Some(2)),
+            not_carried: more(self.not_carried, refusal == Some(9)),
             ..self
         }
     }
 
-    // Whether words that so many rows do not carry would be carried without receiver bits of rows not heard, or by 64 rows.
-    fn with_words(self, number: u8, heard: u64, receiver: u64, rows: usize) -> Met {
-        let met = self.with_number(number);
+    // Two words more that are refused; whether those refused by 9 would be carried without receiver bits of rows not heard, or by 64 rows.
+    fn with_refused(self, number: u8, words: RowWords) -> Met {
+        let met = self.with_call(Some(number));
         if number != 9 {
             return met;
         }
-        let below = expected::labels_of(heard | receiver, receiver, rows);
-        let all = expected::labels_of(heard, receiver, 64);
+        let below = expected::labels_of(RowWords {
+            heard: words.heard | words.receiver,
+            ..words
+        });
+        let all = expected::labels_of(RowWords { rows: 64, ..words });
         Met {
-            unheard: more(met.unheard, below.number == 0),
-            above: more(met.above, all.number == 0),
+            unheard: more(met.unheard, below.is_ok()),
+            above: more(met.above, all.is_ok()),
             ..met
         }
     }
 }
 
-// "converted either way and back": a further case of what is accepted.
-fn with_back(group: Group, number: u8, right: bool) -> Group {
-    if number == 0 {
-        group.with_case(right)
-    } else {
-        group
-    }
-}
-
 impl Tally {
-    // One label list more.
-    pub fn with_labels(self, labels: &[u8]) -> Tally {
-        let words = expected::words_of(labels);
-        let back = gives_labels(words.heard, words.receiver, labels.len(), 0, labels);
+    // One call more that makes words of labels.
+    fn with_words_made(self, labels: &[u8], right: Result<Words, u8>) -> Tally {
         Tally {
-            words: self.words.with_case(gives_words(labels, words)),
-            labels: with_back(self.labels, words.number, back),
-            met: self.met.with_number(words.number),
+            words: self.words.with_case(gives_words(labels, right)),
+            ..self
         }
     }
 
-    // Two words more, for so many rows.
-    pub fn with_words(self, heard: u64, receiver: u64, rows: usize) -> Tally {
-        let right = expected::labels_of(heard, receiver, rows);
-        let number = right.number;
-        let labels = first(&right.list, right.rows);
-        let words = Words {
-            number,
-            count: trial_calls::heard(labels),
-            heard,
-            receiver,
-        };
-        let given = gives_labels(heard, receiver, rows, number, labels);
+    // One call more that makes labels of words.
+    fn with_labels_made(self, words: RowWords, right: Result<&[u8], u8>) -> Tally {
         Tally {
-            words: with_back(self.words, number, gives_words(labels, words)),
-            labels: self.labels.with_case(given),
-            met: self.met.with_words(number, heard, receiver, rows),
+            labels: self.labels.with_case(gives_labels(words, right)),
+            ..self
+        }
+    }
+
+    fn with_met(self, met: Met) -> Tally {
+        Tally { met, ..self }
+    }
+
+    // One label list more; what is carried is "converted either way and back".
+    pub fn with_labels(self, labels: &[u8]) -> Tally {
+        let right = expected::words_of(labels);
+        let tally = self
+            .with_words_made(labels, right)
+            .with_met(self.met.with_call(right.err()));
+        match right {
+            Ok(
+                Words {
+                    heard,
+                    receiver,
+                    ..
+                },
+            ) => {
+                let words = RowWords {
+                    heard,
+                    receiver,
+                    rows: labels.len(),
+                };
+                tally.with_labels_made(words, Ok(labels))
+            }
+            Err(_) => tally,
+        }
+    }
+
+    // Two words more, likewise.
+    pub fn with_words(self, words: RowWords) -> Tally {
+        match expected::labels_of(words) {
+            Ok(list) => {
+                let labels = list.all();
+                let right = Words {
+                    count: trial_calls::heard(labels),
+                    heard: words.heard,
+                    receiver: words.receiver,
+                };
+                self.with_labels_made(words, Ok(labels))
+                    .with_words_made(labels, Ok(right))
+                    .with_met(self.met.with_call(None))
+            }
+            Err(number) => self
+                .with_labels_made(words, Err(number))
+                .with_met(self.met.with_refused(number, words)),
         }
     }
 }

@@ -1,11 +1,11 @@
 // Clash words of drawn windows, compared with what a count of ticks gives, and what was met.
 use crate::counted::Pair;
-use crate::drawn::Drawn;
+use crate::drawn::{Drawn, Lists};
 use crate::{counted, drawn};
+use brute_force::days::are_hours;
 use brute_force::windows::{Day, Kind, Window};
-use table::Setting;
-use trial_calls::first;
-use trial_report::{Group, more};
+use trial_calls::{first, setting_of};
+use trial_report::{Group, Refusals, more};
 use words_calls::gives_clashes;
 
 pub const CALLS: u32 = 6000;
@@ -16,7 +16,7 @@ pub struct Tally {
     // the accepted ones again, on a longer day
     pub longer: Group,
     pub accepted: Accepted,
-    pub refused: Refused,
+    pub refused: Refusals,
     pub pairs: Pairs,
     state: u64,
 }
@@ -28,16 +28,6 @@ pub struct Accepted {
     pub runs: u32,
     pub full: u32,
     pub hours: u32,
-}
-
-// Refused calls by their number.
-#[derive(Clone, Copy, Default)]
-pub struct Refused {
-    pub lists: u32,
-    pub rows: u32,
-    pub ticks: u32,
-    pub gap: u32,
-    pub window: u32,
 }
 
 // Rows of accepted calls that send all day or over the day's end, and the other rows of each, by what they are to it.
@@ -53,54 +43,45 @@ pub struct Pairs {
 
 // ---- what a call is to give
 
-// 1, 2, 4, 14, and then 6, which one row at most is wrong by.
-fn number_of(d: Drawn) -> u8 {
-    let lent = d.lent;
-    let day = d.day;
-    if lent.ends != lent.starts || lent.words != lent.starts {
-        return 1;
+// The number of its refusal: 1, 2, 4, 14, and then 6, which one row at most is wrong by.
+fn refusal_of(d: Drawn) -> Option<u8> {
+    let Lists {
+        starts,
+        ends,
+        words,
+    } = d.lent;
+    if ends != starts || words != starts {
+        return Some(1);
     }
-    if 64 < lent.starts {
-        return 2;
+    if 64 < starts {
+        return Some(2);
     }
-    if day.ticks < 2 || 43200 < day.ticks {
-        return 4;
+    if d.day.ticks < 2 || 43200 < d.day.ticks {
+        return Some(4);
     }
-    if 600 < day.gap {
-        return 14;
+    if 600 < d.day.gap {
+        return Some(14);
     }
-    if d.wrong < d.rows { 6 } else { 0 }
+    d.wrong.filter(|row| *row < d.rows).map(|_| 6)
 }
 
 // ---- calls
 
-fn product(a: u16, times: u16) -> u16 {
-    a.wrapping_mul(times)
-}
-
-fn setting_of(d: Drawn, times: u16) -> Setting {
-    Setting {
-        kind: match d.day.kind {
-            Kind::Run => window::Kind::Run,
-            Kind::Round => window::Kind::Round,
-        },
-        ticks: product(d.day.ticks, times),
-        gap: product(d.day.gap, times),
-        hours: d.hours,
-    }
-}
-
-// Whether the call gives the number and the words, with each tick made so many.
-fn is_given(d: Drawn, times: u16, number: u8, words: &[u64]) -> bool {
-    let starts = d.windows.map(|w| product(w.start, times));
-    let ends = d.windows.map(|w| product(w.end, times));
+// Whether the call gives the words or the number, with each tick made so many.
+fn is_given(d: Drawn, times: u16, right: Result<&[u64], u8>) -> bool {
+    let day = Day {
+        ticks: d.day.ticks.wrapping_mul(times),
+        gap: d.day.gap.wrapping_mul(times),
+        ..d.day
+    };
+    let starts = d.windows.map(|w| w.start.wrapping_mul(times));
+    let ends = d.windows.map(|w| w.end.wrapping_mul(times));
     gives_clashes(
-        setting_of(d, times),
+        setting_of(day, d.hours),
         first(&starts, d.lent.starts),
         first(&ends, d.lent.ends),
         d.lent.words,
-        number,
-        words,
+        right,
     )
 }
 
@@ -117,36 +98,16 @@ fn longest(day: Day) -> u16 {
 
 // ---- what was met
 
-// "p at most q and q at most R"
-fn are_hours(ticks: u16, [p, q]: [u16; 2]) -> bool {
-    p <= q && q <= ticks
-}
-
-fn has_wrong_hours(d: Drawn) -> bool {
-    let [first, second] = d.hours;
-    let ticks = d.day.ticks;
-    d.day.kind == Kind::Run && (!are_hours(ticks, first) || !are_hours(ticks, second))
-}
-
 impl Accepted {
     fn with_call(self, d: Drawn) -> Accepted {
         Accepted {
             rounds: more(self.rounds, d.day.kind == Kind::Round),
             runs: more(self.runs, d.day.kind == Kind::Run),
             full: more(self.full, d.rows == 64),
-            hours: more(self.hours, has_wrong_hours(d)),
-        }
-    }
-}
-
-impl Refused {
-    fn with_number(self, number: u8) -> Refused {
-        Refused {
-            lists: more(self.lists, number == 1),
-            rows: more(self.rows, number == 2),
-            ticks: more(self.ticks, number == 4),
-            gap: more(self.gap, number == 14),
-            window: more(self.window, number == 6),
+            hours: more(
+                self.hours,
+                d.day.kind == Kind::Run && !are_hours(d.day.ticks, d.hours),
+            ),
         }
     }
 }
@@ -190,8 +151,8 @@ impl Tally {
     // One call more, which is refused or accepted.
     fn with_refused(self, d: Drawn, number: u8) -> Tally {
         Tally {
-            calls: self.calls.with_case(is_given(d, 1, number, &[])),
-            refused: self.refused.with_number(number),
+            calls: self.calls.with_case(is_given(d, 1, Err(number))),
+            refused: self.refused.with_call(Some(number)),
             state: d.state,
             ..self
         }
@@ -202,8 +163,10 @@ impl Tally {
         let list = counted::words_of(d.day, windows);
         let words = first(&list, d.rows);
         Tally {
-            calls: self.calls.with_case(is_given(d, 1, 0, words)),
-            longer: self.longer.with_case(is_given(d, longest(d.day), 0, words)),
+            calls: self.calls.with_case(is_given(d, 1, Ok(words))),
+            longer: self
+                .longer
+                .with_case(is_given(d, longest(d.day), Ok(words))),
             accepted: self.accepted.with_call(d),
             pairs: self.pairs.with_rows(d.day, windows),
             state: d.state,
@@ -213,20 +176,17 @@ impl Tally {
 
     fn with_call(self) -> Tally {
         let d = drawn::draw(self.state);
-        match number_of(d) {
-            0 => self.with_accepted(d),
-            number => self.with_refused(d, number),
+        match refusal_of(d) {
+            None => self.with_accepted(d),
+            Some(number) => self.with_refused(d, number),
         }
     }
 }
 
 pub fn all() -> Tally {
-    let mut tally = Tally {
+    let none = Tally {
         state: 808,
         ..Tally::default()
     };
-    for _ in 0..CALLS {
-        tally = tally.with_call();
-    }
-    tally
+    (0..CALLS).fold(none, |tally, _| tally.with_call())
 }

@@ -17,6 +17,8 @@ pub enum Pair {
     Apart,
 }
 
+// The two windows are parameters: a struct of them would be made anew for the other side (`is_near`).
+
 // Whether fewer than so many ticks lie between the end of a window and the start of another, and whether they go on from R-1 to 0 or not.
 fn is_before(day: Day, w: Window, w2: Window, gap: u16, over_end: bool) -> bool {
     (w2.start < w.end) == over_end && between(day, w.end, w2.start).is_some_and(|ticks| ticks < gap)
@@ -60,11 +62,5 @@ fn word_of(day: Day, windows: &[Window], i: usize, w: Window) -> u64 {
 
 // The words of the windows, at most 64, and 0 after them.
 pub fn words_of(day: Day, windows: &[Window]) -> [u64; 64] {
-    let mut words = [0; 64];
-    for (i, w) in windows.iter().enumerate() {
-        if i < 64 {
-            words[i] = word_of(day, windows, i, *w);
-        }
-    }
-    words
+    std::array::from_fn(|i| windows.get(i).map_or(0, |w| word_of(day, windows, i, *w)))
 }

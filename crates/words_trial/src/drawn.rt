@@ -1,7 +1,8 @@
 // Windows drawn from a pseudo-random sequence: short days, so that much overlaps, touches and is equal, with faults of every kind among them.
+use brute_force::days::{Days, kind_by, places};
 use brute_force::random;
 use brute_force::random::{below_any, below_too, from};
-use brute_force::windows::{Day, Kind, Window};
+use brute_force::windows::{Day, Window};
 
 // A call: a day with hours, so many rows, and as many places as each list is lent.
 #[derive(Clone, Copy)]
@@ -9,9 +10,10 @@ pub struct Drawn {
     pub day: Day,
     pub hours: [[u16; 2]; 2],
     pub rows: usize,
+    // the rows' and some after them, which a list that is too long has: a place for each that there may be, since nothing is allocated
     pub windows: [Window; 66],
-    // the first row whose window is wrong; 66 if none is
-    pub wrong: usize,
+    // the row whose window is wrong, if one is; it may be the one after the last
+    pub wrong: Option<usize>,
     pub lent: Lists,
     // the sequence's state after the call
     pub state: u64,
@@ -27,46 +29,7 @@ pub struct Lists {
 
 // ---- rows
 
-// Days of so many ticks with windows of up to `longest`.
-#[derive(Clone, Copy)]
-struct Days {
-    kind: Kind,
-    ticks: u16,
-    longest: u16,
-}
-
-// In a run a window that ends after R or at its start, in a round one that ends or starts at R.
-fn wrong_window(d: Days, start: u16, late: bool) -> Window {
-    match (d.kind, late) {
-        (Kind::Run, true) => Window {
-            start,
-            end: d.ticks.wrapping_add(1),
-        },
-        (Kind::Run, false) => Window { start, end: start },
-        (Kind::Round, true) => Window {
-            start,
-            end: d.ticks,
-        },
-        (Kind::Round, false) => Window {
-            start: d.ticks,
-            end: start,
-        },
-    }
-}
-
-// The end of a window of so many ticks: in a run cut off at R, in a round going on from R-1 to 0. After R ticks it is the start.
-fn end_of(d: Days, start: u16, length: u16) -> u16 {
-    let end = start.wrapping_add(length);
-    if end < d.ticks {
-        return end;
-    }
-    match d.kind {
-        Kind::Run => d.ticks,
-        Kind::Round => end.wrapping_sub(d.ticks),
-    }
-}
-
-// How many ticks a window covers: up to the longest, and for one row in twelve all R, which a run cuts off.
+// How many ticks a window covers: up to the longest, and for one row in twelve all R, which a run cuts off. `Days::length` has another chance, and no windows of R ticks in a run.
 fn length(d: Days, state: u64) -> u16 {
     if below_too(state, 12) == 0 {
         return d.ticks;
@@ -77,36 +40,25 @@ fn length(d: Days, state: u64) -> u16 {
 fn draw_window(d: Days, state: u64, wrong: bool) -> Window {
     let start = below_any(state, d.ticks);
     if wrong {
-        return wrong_window(d, start, below_too(state, 2) == 0);
+        return d.wrong_window(start, state);
     }
-    Window {
-        start,
-        end: end_of(d, start, length(d, random::next(state))),
-    }
+    d.window(start, length(d, random::next(state)))
 }
 
 // Rows of which one may have a wrong window, and the state after them.
-fn draw_rows(d: Days, wrong: usize, state: u64) -> ([Window; 66], u64) {
-    let mut windows = [Window { start: 0, end: 0 }; 66];
+fn draw_rows(d: Days, wrong: Option<usize>, state: u64) -> ([Window; 66], u64) {
     let mut s = state;
-    for i in 0..66 {
-        windows[i] = draw_window(d, s, i == wrong);
+    let windows = std::array::from_fn(|i| {
+        let window = draw_window(d, s, wrong == Some(i));
         s = random::next(random::next(s));
-    }
+        window
+    });
     (windows, s)
 }
 
 // ---- the setting
 
-// 1 or 43,201 for one call in 16.
-fn lent_ticks(ticks: u16, state: u64) -> u16 {
-    match below_too(state, 32) {
-        0 => 1,
-        1 => 43201,
-        _ => ticks,
-    }
-}
-
+// Shares and limits are other ones than in `candidates_trial`: one function of both would take a list of ranges.
 // 0 for one call in four, up to R and beyond for as many, 1 to 3 for most others; the last gap that is taken, and the first that is not.
 fn draw_gap(ticks: u16, state: u64) -> u16 {
     match below_too(state, 24) {
@@ -140,18 +92,13 @@ fn draw_count(state: u64) -> usize {
     }
 }
 
-// One place more for the list that the fault names.
-fn places(n: usize, list: u16, fault: u16) -> usize {
-    if list == fault { n.wrapping_add(1) } else { n }
-}
-
 // One call in 16 has a list that is too long.
 fn draw_lists(n: usize, state: u64) -> Lists {
-    let fault = below_any(state, 48);
+    let [starts, ends, words]: [usize; 3] = places(n, below_any(state, 48));
     Lists {
-        starts: places(n, 0, fault),
-        ends: places(n, 1, fault),
-        words: places(n, 2, fault),
+        starts,
+        ends,
+        words,
     }
 }
 
@@ -161,25 +108,20 @@ fn draw_lists(n: usize, state: u64) -> Lists {
 fn draw_days(state: u64) -> Days {
     let ticks = from(state, 2, 29);
     Days {
-        kind: if below_too(state, 2) == 0 {
-            Kind::Run
-        } else {
-            Kind::Round
-        },
+        kind: kind_by(below_too(state, 2)),
         ticks,
         longest: from(random::next(state), 1, ticks),
     }
 }
 
 // A wrong window for one call in eight, in one of the rows or the one after the last.
-fn draw_wrong(rows: usize, state: u64) -> usize {
-    if below_too(state, 8) != 0 {
-        return 66;
-    }
-    if 60 < rows {
-        return usize::from(from(state, 60, 5));
-    }
-    usize::from(below_any(state, 8))
+fn draw_wrong(rows: usize, state: u64) -> Option<usize> {
+    let row = if 60 < rows {
+        from(state, 60, 5)
+    } else {
+        below_any(state, 8)
+    };
+    (below_too(state, 8) == 0).then_some(usize::from(row))
 }
 
 pub fn draw(state: u64) -> Drawn {
@@ -196,7 +138,7 @@ pub fn draw(state: u64) -> Drawn {
     Drawn {
         day: Day {
             kind: days.kind,
-            ticks: lent_ticks(days.ticks, c),
+            ticks: days.lent_ticks(c),
             gap: draw_gap(days.ticks, d),
         },
         hours: draw_hours(days.ticks, f),

@@ -3,22 +3,14 @@ use crate::carried::Tally;
 use brute_force::plans;
 use trial_calls::first;
 
-// Another number at a place, if the list has it.
-pub fn put(list: &mut [u8], i: usize, byte: u8) {
-    if i < list.len() {
-        list[i] = byte;
-    }
-}
-
 // ---- short lists
 
 // A list, and the same with a 3 in each place in turn.
-fn with_number(tally: Tally, rows: usize, number: u32) -> Tally {
+fn with_number(tally: Tally, rows: usize, number: u16) -> Tally {
     let list = plans::labels(rows, number);
     let mut t = tally.with_labels(first(&list, rows));
     for place in 0..rows {
-        let mut labels = list;
-        put(&mut labels, place, 3);
+        let labels: [u8; 8] = std::array::from_fn(|i| if i == place { 3 } else { list[i] });
         t = t.with_labels(first(&labels, rows));
     }
     t
@@ -27,12 +19,10 @@ fn with_number(tally: Tally, rows: usize, number: u32) -> Tally {
 // All lists of labels 0 to 2, and the same with a 3.
 pub fn short() -> Tally {
     let mut tally = Tally::default();
-    let mut lists: u32 = 1;
-    for rows in 0..8 {
-        for number in 0..lists {
+    for (rows, lists) in plans::LISTS.iter().enumerate() {
+        for number in 0..*lists {
             tally = with_number(tally, rows, number);
         }
-        lists = lists.wrapping_mul(3);
     }
     tally
 }
@@ -43,8 +33,7 @@ pub fn short() -> Tally {
 fn at_each_place(tally: Tally, rows: usize, label: u8, other: u8) -> Tally {
     let mut t = tally;
     for place in 0..rows {
-        let mut labels = [label; 66];
-        put(&mut labels, place, other);
+        let labels: [u8; 66] = std::array::from_fn(|i| if i == place { other } else { label });
         t = t.with_labels(first(&labels, rows));
     }
     t

@@ -1,9 +1,10 @@
 // Marks made into the must word: every mark at every place.
 use crate::expected;
+use trial_calls::first;
 use trial_report::{Group, more};
 use words_calls::gives_must;
 
-// The lists that were tried; of how many the word has a one and is 0, and those that are refused by 2.
+// The lists that were tried; those that give a word with a one, and those that give none, among them those that are refused by 2.
 #[derive(Clone, Copy, Default)]
 pub struct Tally {
     pub lists: Group,
@@ -21,11 +22,12 @@ impl Tally {
     // One list more.
     fn with_marks(self, marks: &[u8]) -> Tally {
         let must = expected::must_of(marks);
+        let some = must.is_ok_and(|word| word != 0);
         Tally {
             lists: self.lists.with_case(gives_must(marks, must)),
-            some: more(self.some, must.word != 0),
-            none: more(self.none, must.word == 0),
-            over: more(self.over, must.number == 2),
+            some: more(self.some, some),
+            none: more(self.none, !some),
+            over: more(self.over, must == Err(2)),
         }
     }
 }
@@ -35,7 +37,7 @@ pub fn all() -> Tally {
     for mark in 0..=255 {
         let marks = marks_from(mark);
         for count in [0, 1, 63, 64, 65] {
-            tally = tally.with_marks(trial_calls::first(&marks, count));
+            tally = tally.with_marks(first(&marks, count));
         }
     }
     tally

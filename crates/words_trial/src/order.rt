@@ -1,100 +1,73 @@
 // Lists of unequal lengths, and which of several faults of a call for clash words is reported: 1, 2, 4, 14, then 6.
+use crate::drawn::Lists;
 use table::Setting;
 use trial_calls::first;
 use trial_report::Group;
 use words_calls::gives_clashes;
 
-// The numbers from `first` on.
-fn words_from(first: u16) -> [u16; 67] {
-    std::array::from_fn(|i| first.wrapping_add(i as u16))
-}
-
-fn starts_of(wrong: bool) -> [u16; 67] {
-    let mut starts = words_from(0);
-    if wrong {
-        starts[0] = 100;
-    }
-    starts
-}
-
-// So many starts, ends and places for words: rows 0–1, 1–2 and so on, but where one is to be wrong the row 0 is 100–1.
-fn refused(
-    group: Group,
-    setting: Setting,
-    starts: usize,
-    ends: usize,
-    words: usize,
-    wrong: bool,
-    number: u8,
-) -> Group {
-    let right = gives_clashes(
+// Whether the number refuses so many rows 0–1, 1–2 and so on, of which row 0 may have another start.
+fn is_refused(setting: Setting, start: u16, lent: Lists, number: u8) -> bool {
+    let starts: [u16; 66] = std::array::from_fn(|i| if i == 0 { start } else { i as u16 });
+    let ends: [u16; 66] = std::array::from_fn(|i| (i as u16).wrapping_add(1));
+    gives_clashes(
         setting,
-        first(&starts_of(wrong), starts),
-        first(&words_from(1), ends),
-        words,
-        number,
-        &[],
-    );
-    group.with_case(right)
-}
-
-// ---- lists of unequal lengths: one has m places, and the others have n
-
-fn unequal(group: Group, n: usize, m: usize) -> Group {
-    let mut g = refused(group, Setting::round(100, 0), m, n, n, false, 1);
-    g = refused(g, Setting::round(100, 0), n, m, n, false, 1);
-    refused(g, Setting::round(100, 0), n, n, m, false, 1)
-}
-
-pub fn lists() -> Group {
-    let mut g = unequal(Group::default(), 0, 1);
-    g = unequal(g, 1, 0);
-    g = unequal(g, 2, 1);
-    g = unequal(g, 2, 3);
-    g = unequal(g, 64, 63);
-    g = unequal(g, 64, 65);
-    g = unequal(g, 65, 64);
-    unequal(g, 65, 66)
-}
-
-// ---- order
-
-// So many rows, in a round, with a place more for words if the lists are to differ.
-fn faulty(
-    group: Group,
-    differ: bool,
-    rows: usize,
-    ticks: u16,
-    gap: u16,
-    wrong: bool,
-    number: u8,
-) -> Group {
-    let words = rows.wrapping_add(usize::from(differ));
-    refused(
-        group,
-        Setting::round(ticks, gap),
-        rows,
-        rows,
-        words,
-        wrong,
-        number,
+        first(&starts, lent.starts),
+        first(&ends, lent.ends),
+        lent.words,
+        Err(number),
     )
 }
 
-// A fault with each later one, and with all of them.
+// One of the lists has m places, and the others have n.
+pub fn lists() -> Group {
+    let mut group = Group::default();
+    for (n, m) in [
+        (0, 1),
+        (1, 0),
+        (2, 1),
+        (2, 3),
+        (64, 63),
+        (64, 65),
+        (65, 64),
+        (65, 66),
+    ] {
+        for [starts, ends, words] in [[m, n, n], [n, m, n], [n, n, m]] {
+            let lent = Lists {
+                starts,
+                ends,
+                words,
+            };
+            group = group.with_case(is_refused(Setting::round(100, 0), 0, lent, 1));
+        }
+    }
+    group
+}
+
+// A fault with each later one, and with all of them. A case is: rows, places for words, R and the gap of a round, the start of row 0, the number.
 pub fn all() -> Group {
-    let mut g = faulty(Group::default(), true, 65, 100, 0, false, 1);
-    g = faulty(g, true, 3, 1, 0, false, 1);
-    g = faulty(g, true, 3, 100, 601, false, 1);
-    g = faulty(g, true, 3, 100, 0, true, 1);
-    g = faulty(g, true, 65, 1, 601, true, 1);
-    g = faulty(g, false, 65, 1, 0, false, 2);
-    g = faulty(g, false, 65, 100, 601, false, 2);
-    g = faulty(g, false, 65, 100, 0, true, 2);
-    g = faulty(g, false, 65, 43201, 601, true, 2);
-    g = faulty(g, false, 64, 43201, 601, false, 4);
-    g = faulty(g, false, 64, 1, 0, true, 4);
-    g = faulty(g, false, 64, 1, 601, true, 4);
-    g = faulty(g, false, 64, 100, 601, true, 14);
-    faulty(g, false, 64, 100, 600, true, 6)
+    let mut group = Group::default();
+    for (rows, words, ticks, gap, start, number) in [
+        (65, 66, 100, 0, 0, 1),
+        (3, 4, 1, 0, 0, 1),
+        (3, 4, 100, 601, 0, 1),
+        (3, 4, 100, 0, 100, 1),
+        (65, 66, 1, 601, 100, 1),
+        (65, 65, 1, 0, 0, 2),
+        (65, 65, 100, 601, 0, 2),
+        (65, 65, 100, 0, 100, 2),
+        (65, 65, 43201, 601, 100, 2),
+        (64, 64, 43201, 601, 0, 4),
+        (64, 64, 1, 0, 100, 4),
+        (64, 64, 1, 601, 100, 4),
+        (64, 64, 100, 601, 100, 14),
+        (64, 64, 100, 600, 100, 6),
+    ] {
+        let lent = Lists {
+            starts: rows,
+            ends: rows,
+            words,
+        };
+        group = group.with_case(is_refused(Setting::round(ticks, gap), start, lent, number));
+    }
+    group
 }

@@ -1,7 +1,7 @@
 // Which words are made into labels and back: all pairs of short ones, and those with one bit changed for row counts on both sides of it.
 use crate::carried::Tally;
-use crate::expected;
-use trial_calls::first;
+use crate::expected::doubled;
+use words_calls::RowWords;
 
 // ---- short words
 
@@ -10,7 +10,11 @@ pub fn short() -> Tally {
     for rows in 0..6 {
         for heard in 0..32 {
             for receiver in 0..32 {
-                tally = tally.with_words(heard, receiver, rows);
+                tally = tally.with_words(RowWords {
+                    heard,
+                    receiver,
+                    rows,
+                });
             }
         }
     }
@@ -20,19 +24,32 @@ pub fn short() -> Tally {
 // ---- one bit
 
 // The bit is changed in either word and in both.
-fn changed(tally: Tally, heard: u64, receiver: u64, bit: u64, rows: usize) -> Tally {
+fn changed(tally: Tally, words: RowWords, bit: u64) -> Tally {
+    let heard = words.heard ^ bit;
+    let receiver = words.receiver ^ bit;
     tally
-        .with_words(heard ^ bit, receiver, rows)
-        .with_words(heard, receiver ^ bit, rows)
-        .with_words(heard ^ bit, receiver ^ bit, rows)
+        .with_words(RowWords { heard, ..words })
+        .with_words(RowWords { receiver, ..words })
+        .with_words(RowWords {
+            heard,
+            receiver,
+            ..words
+        })
 }
 
 // In words of so many rows none of which is heard, and all of which are, by receiver 1 and by receiver 2.
 fn in_rows(tally: Tally, bit: u64, rows: usize) -> Tally {
-    let all = expected::words_of(first(&[1; 64], rows));
-    let mut t = changed(tally, 0, 0, bit, rows);
-    t = changed(t, all.heard, 0, bit, rows);
-    changed(t, all.heard, all.heard, bit, rows)
+    let all = (0..rows).fold(0, |word, _| doubled(word, true));
+    let mut t = tally;
+    for (heard, receiver) in [(0, 0), (all, 0), (all, all)] {
+        let words = RowWords {
+            heard,
+            receiver,
+            rows,
+        };
+        t = changed(t, words, bit);
+    }
+    t
 }
 
 // Row counts at which the bit is from the row count up, and of which it is the last or the last but one row's; 63, 64 and 65 rows.

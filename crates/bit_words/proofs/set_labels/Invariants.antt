@@ -5,4 +5,4 @@ use Rattle.bit_words.specs.Words.{label_by}
 use Rattle.bit_words.proofs.set_labels.Given as goal
 
 abbrev pub invariant-loop-i : goal.invariant-loop-i
-invariant-loop-i l = Filled (λ k. label_by (is_set l.heard k) (is_set l.receiver k)) l.i l.initial.labels l.labels
+invariant-loop-i l = Filled (λ k. label_by (is_set l.words.heard k) (is_set l.words.receiver k)) l.i l.initial.labels l.labels

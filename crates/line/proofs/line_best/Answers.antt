@@ -7,7 +7,7 @@ use lib.ListN.{length, get_or-eq_default}
 use lib.Seq.{drop-set-lt}
 use Rattle.line.specs.Cells.{cell_bytes}
 use Rattle.line.proofs.Turns.{holds_first, holds_small, holds_step, holds_last, turn}
-use Rattle.basics.proofs.Lists.{get_d_any}
+use Rattle.std.proofs.lemmas.List.{get_or_default}
 use Rattle.line.proofs.line_best.Goals as goal
 
 pub loop-k-init : goal.loop-k-init
@@ -42,7 +42,7 @@ loop-k-preserved c =
     let made = c.fill_stage.ensures in
     record {
       rest = made.rest ∙ l.invariant.rest;
-      next_start = get_d_any ss (l.k - 1) 0 65535 (omega arith);
+      next_start = get_or_default ss (l.k - 1) 0 65535 (omega arith);
       holds = holds_step ss c.args.ends.now c.args.perms.now c.requires.line _ l.k l.space (omega arith) (omega arith) l.invariant.holds _ _ _ l.invariant.next_start refl made;
     }
 

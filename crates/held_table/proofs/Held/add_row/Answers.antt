@@ -4,8 +4,7 @@ use Rattle.std.specs.Prelude.{Err}
 use Rattle.refusals.proofs.Refusals.{err_refuses}
 use Rattle.window.specs.declared.Row.{Row}
 use Rattle.table.specs.Changes.{with_row}
-use Rattle.held_table.specs.Held.{held_table}
-use Rattle.held_table.specs.Held.{held}
+use Rattle.held_table.specs.Held.{held, held_table}
 use Rattle.held_table.proofs.Planning.{rows_taken, rows_kept}
 use Rattle.held_table.proofs.Adding.{put_back, new_rows}
 use Rattle.held_table.proofs.Held.add_row.Goals as goal

@@ -4,46 +4,10 @@ use Rattle.std.specs.Prelude.{Err}
 use Rattle.refusals.proofs.Refusals.{err_refuses}
 use Rattle.window.specs.declared.Row.{Row}
 use Rattle.table.specs.Changes.{without_row}
-use Rattle.row_lists.specs.Moved.{moved_up, moved_down}
-use Rattle.row_lists.proofs.Moving.{row_in}
-use Rattle.held_table.specs.Held.{held_table}
-use Rattle.held_table.specs.Held.{held}
+use Rattle.held_table.specs.Held.{held, held_table}
 use Rattle.held_table.proofs.Planning.{rows_taken, rows_kept}
-use Rattle.held_table.proofs.Withdrawing.{places_kept, length_up, length_down, moved_back, rest_rows}
+use Rattle.held_table.proofs.Withdrawing.{moved_back, rest_rows}
 use Rattle.held_table.proofs.Held.withdraw_row.Goals as goal
-
-pub plan_first-requires : goal.plan_first-requires
-plan_first-requires c =
-    let n = c.args.self.now.numbers.rows in
-    let up = c.move_up.ensures in
-    let p = c.requires in
-    record {
-      rows = record {
-        places = places_kept (moved_up c.args.k n) (length_up c.args.k n) p.places.rows_64 (up.starts_after, (up.ends_after, up.marks_after));
-        most = omega (arith, p.most);
-      };
-      most = omega (arith, p.most, p.places.labels_64);
-    }
-
-pub move_down-requires : goal.move_down-requires
-move_down-requires c =
-    let n = c.args.self.now.numbers.rows in
-    let up = c.move_up.ensures in
-    let p = c.requires in
-    record {
-      places = places_kept (moved_up c.args.k n) (length_up c.args.k n) p.places.rows_64 (up.starts_after, (up.ends_after, up.marks_after));
-      below = p.below;
-      most = p.most;
-    }
-
-pub set_row-requires : goal.set_row-requires
-set_row-requires c =
-    let n = c.args.self.now.numbers.rows in
-    let up = c.move_up.ensures in
-    let down = c.move_down.ensures in
-    let p = c.requires in
-    let moved = places_kept (moved_up c.args.k n) (length_up c.args.k n) p.places.rows_64 (up.starts_after, (up.ends_after, up.marks_after)) in
-    row_in (places_kept (moved_down c.args.k (n - 1)) (length_down c.args.k (n - 1)) moved (down.starts_after, (down.ends_after, down.marks_after))) (omega (arith, p.below, p.most))
 
 pub returns-in-Ok-clause-planned : goal.returns-in-Ok-clause-planned
 returns-in-Ok-clause-planned c =

@@ -1,2 +1,0 @@
--- What the proofs of the crate `trial_calls` share.
-mod Parts

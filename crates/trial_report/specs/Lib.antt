@@ -1,0 +1,2 @@
+-- What the contracts of the crate `trial_report` cite.
+pub mod Groups
