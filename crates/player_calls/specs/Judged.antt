@@ -1,4 +1,4 @@
--- Inner: Whether a call of the player gave what is expected, which is told by types of the trial's own: nothing here is said by the product's definitions.
+-- Inner: Whether a call of the player gave what is expected, which is told by types of the trial's own: of the product's definitions only what is accepted and the numbers of the refusals are used.
 use Rattle.std.specs.Prelude.{ℕ, ◌≡◌, Option, None, Some, Result, Ok, Err}
 use Rattle.refusals.specs.Refusals.{Outcome, Accepted}
 use Rattle.refusals.specs.Numbers.{number}
