@@ -6,6 +6,7 @@
 pub mod candidates;
 pub mod distance;
 pub mod first_free;
+pub mod former;
 pub mod held;
 pub mod player_port;
 pub mod port;
