@@ -1,6 +1,6 @@
 //! Tables of windows from fixed pseudo-random sequences, for the benchmark and the tests.
 
-use crate::{Kind, Refusal};
+use crate::{former, Kind, Refusal, SPACE_BYTES};
 
 /// SplitMix64: the same numbers on every machine.
 pub struct Sequence(u64);
@@ -80,12 +80,23 @@ impl Table {
         crate::write_plan(self.kind, self.ticks, self.gap, &self.starts, &self.ends, &self.marks, labels, tape)
     }
 
-    /// A row of a round that starts at a tick, which may be past the end of the day, and is so many ticks long, up to R.
+    /// A row that starts at a tick, which in a round may be past the end of the day, and is so many ticks long, up to R.
     fn push_arc(&mut self, start: u32, length: u32) {
         let ticks = self.ticks as u32;
-        self.starts.push((start % ticks) as u16);
-        self.ends.push(((start + length) % ticks) as u16);
+        let (start, end) = match self.kind {
+            Kind::Round => (start % ticks, (start + length) % ticks),
+            Kind::Run(_) => (start, start + length),
+        };
+        self.starts.push(start as u16);
+        self.ends.push(end as u16);
         self.marks.push(0);
+    }
+
+    /// Rows of a round with scattered starts that send all day but for `low` to `high` ticks.
+    fn push_long(&mut self, rows: u32, low: u32, high: u32, sequence: &mut Sequence) {
+        for _ in 0..rows {
+            self.push_arc(sequence.within(0, DAY - 1), DAY - sequence.within(low, high));
+        }
     }
 
     /// Puts the rows into a pseudo-random order.
@@ -146,10 +157,15 @@ pub fn scattered(rows: u32, percent: u32, seed: u64) -> Table {
 pub fn half_long(rows: u32, low: u32, high: u32, seed: u64) -> Table {
     let mut sequence = Sequence::new(seed);
     let mut table = deep(rows / 2, 1, 2, seed + 1);
-    for _ in rows / 2..rows {
-        table.push_arc(sequence.within(0, DAY - 1), DAY - sequence.within(low, high));
-    }
+    table.push_long(rows - rows / 2, low, high, &mut sequence);
     table.shuffle(&mut sequence);
+    table
+}
+
+/// Rows that send all day but for `low` to `high` ticks.
+pub fn all_long(rows: u32, low: u32, high: u32, seed: u64) -> Table {
+    let mut table = Table::empty(Kind::Round, DAY as u16);
+    table.push_long(rows, low, high, &mut Sequence::new(seed));
     table
 }
 
@@ -219,6 +235,153 @@ pub fn in_turn(seed: u64) -> (Table, Vec<u8>) {
     (table, [1, 2].repeat(32))
 }
 
+/// Rows with one and the same window, of half the day.
+pub fn equal(rows: u32, start: u32) -> Table {
+    let mut table = Table::empty(Kind::Round, DAY as u16);
+    for _ in 0..rows {
+        table.push_arc(start, DAY / 2);
+    }
+    table
+}
+
+/// Rows each of which lies within the one before it, in a pseudo-random order; the longest leaves a stretch of the day free.
+pub fn nested(rows: u32, seed: u64) -> Table {
+    let mut sequence = Sequence::new(seed);
+    let mut table = Table::empty(Kind::Round, DAY as u16);
+    let step = DAY / (2 * rows + 4);
+    let from = sequence.within(0, DAY - 1);
+    for i in 0..rows {
+        let start = i * step + sequence.within(0, step - 1);
+        let end = DAY - (i + 2) * step + sequence.within(0, step - 1);
+        table.push_arc(from + start, end - start);
+    }
+    table.shuffle(&mut sequence);
+    table
+}
+
+/// Windows over the whole day of which no two overlap.
+pub fn disjoint(rows: u32, seed: u64) -> Table {
+    let mut sequence = Sequence::new(seed);
+    let mut table = Table::empty(Kind::Round, DAY as u16);
+    let step = DAY / rows;
+    for i in 0..rows {
+        let start = sequence.within(0, step / 2);
+        table.push_arc(i * step + start, sequence.within(1, step - start));
+    }
+    table.shuffle(&mut sequence);
+    table
+}
+
+/// A table that has a plan, with every second row that is heard in it marked must, which leaves the plan as it is. It is planned by the former port, so that a count of the
+/// planner's or the port's instructions has no plan more in it.
+pub fn half_heard_must(mut table: Table) -> Table {
+    let mut labels = vec![0; table.rows()];
+    let planned = table.plan(former::plan, &mut labels, &mut vec![0; SPACE_BYTES]);
+    planned.expect("a table that has a plan");
+    let heard = (0..table.rows()).filter(|&i| labels[i] > 0);
+    for i in heard.step_by(2) {
+        table.marks[i] |= 1;
+    }
+    table
+}
+
+/// The same for the table with marks for either receiver, receiver 1 only and receiver 2 only in turn.
+pub fn mixed_marks(mut table: Table) -> Table {
+    table.marks = [0, 2, 4].into_iter().cycle().take(table.rows()).collect();
+    half_heard_must(table)
+}
+
+/// Open hours of a run of so many ticks, for each receiver all of the run in one case of three.
+pub fn random_hours(sequence: &mut Sequence, ticks: u32) -> [[u16; 2]; 2] {
+    [0, 1].map(|_| {
+        if sequence.one_in(3) {
+            return [0, ticks as u16];
+        }
+        let (a, b) = (sequence.within(0, ticks), sequence.within(0, ticks));
+        [a.min(b) as u16, a.max(b) as u16]
+    })
+}
+
+/// What a row of a mixture can be: a short window, a long arc, a window of a row before it once more, one within that of a row before it, or one that sends all day.
+#[derive(Clone, Copy)]
+enum Shape {
+    Short,
+    Long,
+    Equal,
+    Nested,
+    AllDay,
+}
+
+/// What the rows of a mixture are drawn from: each shape as often as this has it, at least one.
+fn random_shapes(sequence: &mut Sequence) -> Vec<Shape> {
+    let mut shapes = vec![];
+    for (shape, most) in [
+        (Shape::Short, 8),
+        (Shape::Long, 8),
+        (Shape::Equal, 4),
+        (Shape::Nested, 4),
+        (Shape::AllDay, 2),
+    ] {
+        let times = if sequence.one_in(2) { 0 } else { sequence.within(1, most) };
+        shapes.extend(vec![shape; times as usize]);
+    }
+    if shapes.is_empty() {
+        shapes.push(Shape::Short);
+    }
+    shapes
+}
+
+/// Start and length of a row of a mixture; `before` has those of the rows before it. Where there are none, a row that rests on one is a long arc.
+fn random_arc(sequence: &mut Sequence, table: &Table, shape: Shape, before: &[(u32, u32)]) -> (u32, u32) {
+    let (round, ticks) = (table.kind == Kind::Round, table.ticks as u32);
+    let (low, high) = match shape {
+        Shape::Equal | Shape::Nested if !before.is_empty() => {
+            let (start, length) = before[sequence.within(0, before.len() as u32 - 1) as usize];
+            if matches!(shape, Shape::Equal) {
+                return (start, length);
+            }
+            let [first, last] = [0, 1].map(|_| sequence.within(0, (length - 1) / 4));
+            return ((start + first) % ticks, length - first - last);
+        }
+        Shape::Short => (1, ticks / 16),
+        Shape::AllDay => (ticks, ticks),
+        _ => (ticks / 8, ticks - 1),
+    };
+    let length = sequence.within(low, high);
+    (sequence.within(0, if round { ticks - 1 } else { ticks - length }), length)
+}
+
+/// So many rows of random shapes in a round or a run, with any marks, of which few are must, and in one table of two with a gap.
+pub fn mixture(sequence: &mut Sequence, rows: usize) -> Table {
+    let ticks = [60, 1_440, DAY, DAY][sequence.within(0, 3) as usize];
+    let kind = if sequence.one_in(4) {
+        Kind::Run(random_hours(sequence, ticks))
+    } else {
+        Kind::Round
+    };
+    let gap = if sequence.one_in(2) { 0 } else { sequence.within(1, ticks.min(600)) };
+    let mut table = Table::empty(kind, ticks as u16).with_gap(gap as u16);
+    let shapes = random_shapes(sequence);
+    let must = [40, 200, 1_000][sequence.within(0, 2) as usize];
+    let only = [1, 2, 4, 1_000][sequence.within(0, 3) as usize];
+    let mut arcs = vec![];
+    for i in 0..rows {
+        let shape = shapes[sequence.within(0, shapes.len() as u32 - 1) as usize];
+        let arc = random_arc(sequence, &table, shape, &arcs);
+        arcs.push(arc);
+        table.push_arc(arc.0, arc.1);
+        let receivers = if sequence.one_in(only) { sequence.within(0, 2) as u8 } else { 0 };
+        table.marks[i] = 2 * receivers + u8::from(sequence.one_in(must));
+    }
+    table
+}
+
+/// The benchmark's mixtures, of 64 rows.
+pub fn benchmark_mixtures() -> Vec<Table> {
+    let mut sequence = Sequence::new(20);
+    (0..1_000).map(|_| mixture(&mut sequence, 64)).collect()
+}
+
 /// The benchmark's tables of 64 rows, with their names.
 pub fn benchmark_tables() -> Vec<(&'static str, Table)> {
     vec![
@@ -238,6 +401,13 @@ pub fn benchmark_tables() -> Vec<(&'static str, Table)> {
         ("1 to 2 deep, gap 60", deep(64, 1, 2, 1).with_gap(60)),
         ("run with uneven hours, gap 60", uneven_run(64, 6).with_gap(60)),
         ("32 windows and 32 long arcs, gap 60", long_arcs(8).with_gap(60)),
+        ("64 equal arcs", equal(64, 30_000)),
+        ("nested arcs", nested(64, 16)),
+        ("all rows almost all day", all_long(64, 1, 3_000, 17)),
+        ("8 deep, marks 0 to 5", mixed_marks(deep(64, 7, 9, 18))),
+        ("4 to 5 deep, half of the heard must", half_heard_must(deep(64, 4, 5, 3))),
+        ("16 deep, half of the heard must", half_heard_must(deep(64, 15, 17, 4))),
+        ("disjoint windows", disjoint(64, 19)),
     ]
 }
 

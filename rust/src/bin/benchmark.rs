@@ -4,8 +4,8 @@
 use hubplan::candidates::{try_lists, Candidates, Tried};
 use hubplan::distance::{Remainder, Sums};
 use hubplan::held::{HeldTable, Row};
-use hubplan::tables::{benchmark_tables, candidate_tables, deep, in_turn, Planner, Table, DAY};
-use hubplan::{first_free, player_port, port, Kind, Player, Refusal, Stepped, MAX_CANDIDATES, PLAN_TAPE_BYTES, SPACE_BYTES};
+use hubplan::tables::{benchmark_mixtures, benchmark_tables, candidate_tables, deep, in_turn, Planner, Table, DAY};
+use hubplan::{first_free, former, player_port, port, Kind, Player, Refusal, Stepped, MAX_CANDIDATES, PLAN_TAPE_BYTES, SPACE_BYTES};
 use std::fmt::Write as _;
 use std::hint::black_box;
 use std::path::{Path, PathBuf};
@@ -91,6 +91,11 @@ fn measure(calls: &mut [&mut dyn FnMut()], rounds: usize) -> Vec<Spread> {
             (2e6 / once).clamp(1.0, 10_000.0) as u32
         })
         .collect();
+    measure_each(calls, &counts, rounds)
+}
+
+/// The same where it is known how often each is called for one time.
+fn measure_each(calls: &mut [&mut dyn FnMut()], counts: &[u32], rounds: usize) -> Vec<Spread> {
     let mut times = vec![vec![]; calls.len()];
     for _ in 0..rounds {
         for (i, call) in calls.iter_mut().enumerate() {
@@ -100,22 +105,25 @@ fn measure(calls: &mut [&mut dyn FnMut()], rounds: usize) -> Vec<Spread> {
     times.into_iter().map(spread).collect()
 }
 
-/// The planner's and the port's time for a table; they must agree.
-fn planners(table: &Table, rounds: usize) -> (Spread, Spread, Result<usize, Refusal>) {
-    let mut labels = vec![0; table.rows()];
-    let mut port_labels = labels.clone();
-    let (mut space, mut port_space) = (vec![0; SPACE_BYTES], vec![0; SPACE_BYTES]);
-    let mut proved_call = || {
-        let _ = black_box(black_box(table).plan(hubplan::plan, &mut labels, &mut space));
-    };
-    let mut port_call = || {
-        let _ = black_box(black_box(table).plan(port::plan, &mut port_labels, &mut port_space));
-    };
-    let times = measure(&mut [&mut proved_call, &mut port_call], rounds);
-    let answer = table.plan(hubplan::plan, &mut labels, &mut space);
-    assert_eq!(answer, table.plan(port::plan, &mut port_labels, &mut port_space));
-    assert_eq!(labels, port_labels);
-    (times[0], times[1], answer)
+/// The planner, the hand port and the former one.
+const PLANNERS: [Planner; 3] = [hubplan::plan, port::plan, former::plan];
+
+/// The times of some planners for a table; they must agree.
+fn planners<const N: usize>(
+    table: &Table,
+    planners: [Planner; N],
+    time: impl FnOnce(&mut [&mut dyn FnMut()]) -> Vec<Spread>,
+) -> ([Spread; N], Result<usize, Refusal>) {
+    let mut plans = planners.map(|_| (Ok(0), vec![0; table.rows()]));
+    let calls = planners.iter().zip(&mut plans).map(|(planner, (answer, labels))| {
+        let mut space = vec![0; SPACE_BYTES];
+        move || *answer = black_box(black_box(table).plan(*planner, labels, &mut space))
+    });
+    let mut calls: Vec<_> = calls.collect();
+    let mut calls: Vec<&mut dyn FnMut()> = calls.iter_mut().map(|call| call as &mut dyn FnMut()).collect();
+    let times = time(&mut calls);
+    assert!(plans.iter().all(|plan| *plan == plans[0]), "{plans:?}");
+    (std::array::from_fn(|i| times[i]), plans[0].0)
 }
 
 fn words(answer: Result<usize, Refusal>) -> String {
@@ -250,12 +258,12 @@ fn tables_of_64_rows(folder: &Path) {
     println!("## Tables of 64 rows\n");
     println!("One whole plan in microseconds of processor time: the median of repeated runs (lower to upper quartile).\n");
     println!(
-        "| table | windows over a tick | heard | planner | hand port | planner / port | old planner | it hears fewer by \
+        "| table | windows over a tick | heard | planner | hand port | planner / port | former | planner / former | old planner | it hears fewer by \
          | glpsol, one maximum | planner / glpsol | glpsol without its start | planner / that |"
     );
-    println!("|---|---|---|---|---|---|---|---|---|---|---|---|");
+    println!("|---|---|---|---|---|---|---|---|---|---|---|---|---|---|");
     for (name, table) in benchmark_tables() {
-        let (proved, ported, answer) = planners(&table, 41);
+        let ([proved, ported, former], answer) = planners(&table, PLANNERS, |calls| measure(calls, 41));
         let (old, fewer) = old_planner(&table, answer);
         let solved = match version {
             None => "not installed | | |".to_string(),
@@ -267,17 +275,50 @@ fn tables_of_64_rows(folder: &Path) {
         };
         let (low, high) = table.depth();
         println!(
-            "| {name} | {low} to {high} | {} | {} | {} | {:.2} | {} | {fewer} | {solved} |",
+            "| {name} | {low} to {high} | {} | {} | {} | {:.2} | {} | {:.3} | {} | {fewer} | {solved} |",
             words(answer),
             proved.words(),
             ported.words(),
             proved.median / ported.median,
+            micros(former.median),
+            proved.median / former.median,
             micros(old.median),
         );
     }
     match version {
         Some(version) => println!("\nglpsol is {version}."),
         None => println!("\nglpsol is not installed (Debian: apt-get install glpk-utils)."),
+    }
+}
+
+/// Mean and worst time over all mixtures, of each planner.
+fn mixtures() {
+    println!("\n## Mixtures\n");
+    let tables = benchmark_mixtures();
+    let (mut sums, mut worst, mut planned) = ([0.0; 3], [0.0; 3], 0);
+    for table in &tables {
+        let (times, answer) = planners(table, PLANNERS, |calls| measure_each(calls, &[1; 3], 3));
+        for (i, time) in times.iter().enumerate() {
+            sums[i] += time.median;
+            worst[i] = time.median.max(worst[i]);
+        }
+        planned += u32::from(answer.is_ok());
+    }
+    println!(
+        "One whole plan of each of {} random tables of 64 rows, of which {planned} have a plan, in microseconds of processor time: the median of three plans of each table.\n",
+        tables.len()
+    );
+    println!("| | planner | hand port | planner / port | former | planner / former |");
+    println!("|---|---|---|---|---|---|");
+    for (what, [proved, ported, former]) in [("mean", sums.map(|sum: f64| sum / tables.len() as f64)), ("worst", worst)] {
+        println!(
+            "| {what} | {} | {} | {:.2} | {} | {:.3} |",
+            micros(proved),
+            micros(ported),
+            proved / ported,
+            micros(former),
+            proved / former
+        );
     }
 }
 
@@ -292,7 +333,8 @@ fn growth() {
             // the median over five tables, since one table more or less says little
             let times: Vec<(f64, f64)> = (0..5)
                 .map(|seed| {
-                    let (proved, ported, _) = planners(&deep(rows, low, high, 900 + seed), 11);
+                    let table = deep(rows, low, high, 900 + seed);
+                    let ([proved, ported], _) = planners(&table, [hubplan::plan, port::plan], |calls| measure(calls, 11));
                     (proved.median, proved.median / ported.median)
                 })
                 .collect();
@@ -683,10 +725,10 @@ fn main() {
         ["tried", index, "call"] => return one_try(index.parse().expect("a table's number"), None),
         ["tried", index, "planner"] => return one_try(index.parse().expect("a table's number"), Some(hubplan::plan)),
         ["tried", index, "port"] => return one_try(index.parse().expect("a table's number"), Some(port::plan)),
-        [] | ["held"] | ["candidates"] | ["player"] => {}
+        [] | ["mixtures"] | ["held"] | ["candidates"] | ["player"] => {}
         _ => {
             eprintln!(
-                "usage: benchmark [held | candidates | player | one NUMBER planner|port|remainder | day player|port|remainder | start player|port | tried NUMBER call|planner|port]"
+                "usage: benchmark [mixtures | held | candidates | player | one NUMBER planner|port|remainder | day player|port|remainder | start player|port | tried NUMBER call|planner|port]"
             );
             std::process::exit(2);
         }
@@ -695,10 +737,15 @@ fn main() {
     fs::create_dir_all(&folder).expect("a folder for glpsol's files");
     if words.is_empty() {
         tables_of_64_rows(&folder);
+    }
+    let asked = |word: &str| words.is_empty() || words == [word];
+    if asked("mixtures") {
+        mixtures();
+    }
+    if words.is_empty() {
         growth();
         instructions(&folder);
     }
-    let asked = |word: &str| words.is_empty() || words == [word];
     if asked("held") {
         held_tables();
     }
