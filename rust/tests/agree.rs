@@ -8,8 +8,8 @@ mod space;
 mod words;
 
 use hubplan::distance::Remainder;
-use hubplan::tables::{benchmark_tables, long_arcs, Planner, Sequence, Table};
-use hubplan::{first_free, mark, port, Kind, Player, Refusal, FLEET_TAPE_BYTES, MAX_GAP, PLAN_TAPE_BYTES, REPLY_BYTES, SPACE_BYTES};
+use hubplan::tables::{benchmark_tables, deep, half_heard_must, long_arcs, mixed_marks, mixture, random_hours, Planner, Sequence, Table};
+use hubplan::{first_free, former, mark, port, Kind, Player, Refusal, FLEET_TAPE_BYTES, MAX_GAP, PLAN_TAPE_BYTES, REPLY_BYTES, SPACE_BYTES};
 
 fn numbers(answer: Result<usize, Refusal>) -> (u8, usize) {
     match answer {
@@ -46,6 +46,14 @@ fn compare_plan(planner: Planner, table: &Table, labels: usize, space: usize, ri
     right.0
 }
 
+/// The same for the library and the hand ports, present and former.
+fn compare_plans(table: &Table, space: usize, right: &(u8, usize, Vec<u8>)) -> u8 {
+    for planner in [hubplan::plan, port::plan, port::plan_by::<Remainder>, former::plan] {
+        compare_plan(planner, table, table.rows(), space, right);
+    }
+    right.0
+}
+
 /// Writes a tape into the buffer and compares answer and buffer with what the rules ask; gives the refusal's number.
 fn compare_written(rules: &papers::Rules, table: &Table, labels: &[u8], mut buffer: Vec<u8>) -> u8 {
     let right = papers::written(rules, table, labels, &buffer);
@@ -56,16 +64,6 @@ fn compare_written(rules: &papers::Rules, table: &Table, labels: &[u8], mut buff
 
 fn right_plan(table: &Table, labels: usize, space: usize) -> (u8, usize, Vec<u8>) {
     papers::planned(&papers::RULES, table, &lent_labels(labels), space)
-}
-
-fn random_hours(sequence: &mut Sequence, ticks: u32) -> [[u16; 2]; 2] {
-    [0, 1].map(|_| {
-        if sequence.one_in(3) {
-            return [0, ticks as u16];
-        }
-        let (a, b) = (sequence.within(0, ticks), sequence.within(0, ticks));
-        [a.min(b) as u16, a.max(b) as u16]
-    })
 }
 
 /// Of how many rows of a random table one is marked must, one is for one receiver only, and one sends all day, in a round.
@@ -201,8 +199,7 @@ fn up_to_8_rows_against_all_labels() {
         let right = right_plan(&table, rows, SPACE_BYTES + 9);
         let tried = papers::plan_by_trying(&papers::RULES, &table);
         assert_eq!(tried, (right.0 == 0).then(|| right.2.clone()), "{table:?}");
-        none += u32::from(compare_plan(hubplan::plan, &table, rows, SPACE_BYTES + 9, &right) == 8);
-        compare_plan(port::plan, &table, rows, SPACE_BYTES + 9, &right);
+        none += u32::from(compare_plans(&table, SPACE_BYTES + 9, &right) == 8);
         runs += u32::from(table.kind != Kind::Round);
         for i in 0..rows {
             deciding[table.marks[i] as usize] += u32::from(decides(&table, i, &right));
@@ -272,8 +269,7 @@ fn larger_tables_against_the_search() {
             assert!(papers::is_plan(&papers::RULES, &table, &right.2));
         }
         count_kind(&mut gaps_deciding, &table, gap_decides(&table, &right));
-        none += u32::from(compare_plan(hubplan::plan, &table, rows, SPACE_BYTES, &right) == 8);
-        compare_plan(port::plan, &table, rows, SPACE_BYTES, &right);
+        none += u32::from(compare_plans(&table, SPACE_BYTES, &right) == 8);
         // the first row of each mark, as a search of so many rows takes its time
         for mark in 2..=5 {
             if let Some(i) = table.marks.iter().position(|&other| other == mark) {
@@ -297,14 +293,66 @@ fn larger_tables_against_the_search() {
 
 #[test]
 fn benchmark_tables_against_the_search() {
-    let mut tables: Vec<Table> = benchmark_tables().into_iter().map(|(_, table)| table).collect();
-    tables.extend((0..4).map(|seed| long_arcs(300 + seed)));
-    for table in tables {
+    let mut tables = benchmark_tables();
+    tables.extend((0..4).map(|seed| ("long arcs", long_arcs(300 + seed))));
+    for (name, table) in tables {
         let right = right_plan(&table, 64, SPACE_BYTES);
-        compare_plan(hubplan::plan, &table, 64, SPACE_BYTES, &right);
-        compare_plan(port::plan, &table, 64, SPACE_BYTES, &right);
-        compare_plan(port::plan_by::<Remainder>, &table, 64, SPACE_BYTES, &right);
+        let refusal = if name == "all must, no plan" { 8 } else { 0 };
+        assert_eq!(compare_plans(&table, SPACE_BYTES, &right), refusal, "{name}");
     }
+}
+
+/// That half of the rows heard must be heard leaves the plan.
+#[test]
+fn half_of_the_heard_must() {
+    for seed in 0..20 {
+        let table = deep(64, 2, 9, 800 + seed);
+        let right = right_plan(&table, 64, SPACE_BYTES);
+        let must = half_heard_must(table.clone());
+        assert_eq!(must.marks.iter().filter(|&&mark| mark == mark::MUST).count(), right.1.div_ceil(2));
+        assert_eq!(right_plan(&must, 64, SPACE_BYTES), right, "{must:?}");
+        assert_eq!(compare_plans(&must, SPACE_BYTES, &right), 0);
+        let mixed = mixed_marks(table);
+        assert_eq!(compare_plans(&mixed, SPACE_BYTES, &right_plan(&mixed, 64, SPACE_BYTES)), 0);
+    }
+}
+
+/// Compares a mixture and counts runs, gaps, tables without a plan, and marks.
+fn compare_mixture(table: &Table, right: &(u8, usize, Vec<u8>), met: &mut [u32; 9]) {
+    let none = compare_plans(table, SPACE_BYTES, right) == 8;
+    for (i, is_met) in [table.kind != Kind::Round, table.gap > 0, none].into_iter().enumerate() {
+        met[i] += u32::from(is_met);
+    }
+    table.marks.iter().for_each(|&mark| met[3 + mark as usize] += 1);
+}
+
+#[test]
+fn mixtures_of_up_to_7_rows_against_all_labels() {
+    let mut sequence = Sequence::new(820);
+    let mut met = [0; 9];
+    for _ in 0..12_000 {
+        let rows = sequence.within(1, 7) as usize;
+        let table = mixture(&mut sequence, rows);
+        let right = match papers::plan_by_trying(&papers::RULES, &table) {
+            Some(labels) => (0, papers::heard(&labels), labels),
+            None => (8, 0, lent_labels(rows)),
+        };
+        compare_mixture(&table, &right, &mut met);
+    }
+    assert!(met[..2].iter().all(|&times| times > 2_000), "{met:?}");
+    assert!(met[2] > 30 && met[3..].iter().all(|&times| times > 60), "{met:?}");
+}
+
+#[test]
+fn mixtures_of_up_to_64_rows_against_the_search() {
+    let mut sequence = Sequence::new(830);
+    let mut met = [0; 9];
+    for turn in 0..800 {
+        let rows = if turn % 4 == 0 { 64 } else { sequence.within(8, 64) as usize };
+        let table = mixture(&mut sequence, rows);
+        compare_mixture(&table, &right_plan(&table, rows, SPACE_BYTES), &mut met);
+    }
+    assert!(met.iter().all(|&times| times > 40), "{met:?}");
 }
 
 /// The old planner can hear too few rows or find no plan; what it gives is a plan.

@@ -16,7 +16,7 @@ fn library(call: &Call) -> Result<Given, u8> {
             ..Given::default()
         }),
         &Call::Words { heard, receiver, rows } => {
-            let before: Vec<u8> = (0..rows).map(|i| 100 + i as u8).collect();
+            let before: Vec<u8> = (0..rows).map(|i| 100u8.wrapping_add(i as u8)).collect();
             let mut labels = before.clone();
             let answer = to_labels(heard, receiver, &mut labels);
             assert!(answer.is_ok() || labels == before, "{call:?}");
