@@ -128,7 +128,7 @@ class Parser:
             self.need("#")
             self.take("!")
             self.need("[")
-            if not self.is_at("tactic", "derive", "repr", "unsafe"):
+            if not self.is_at("tactic", "derive", "inline", "repr", "unsafe"):
                 fail(self.now, f"an attribute {self.now.text}")
             depth = 1
             while depth:
@@ -819,6 +819,8 @@ def read_items(module, tokens):
         if item.kind == "use":
             for name, path in parts[0]:
                 front = [module.split("::")[0]] + path[1:] if path[0] == "crate" else path
+                if f"{module}::{path[0]}" in modules:
+                    front = [module] + path
                 used[module, name] = "::".join(front)
         elif item.kind == "mod":
             if f"{module}::{parts[0]}" not in modules:
@@ -882,6 +884,7 @@ VALUE, COPY, PLACE, BOUND, RETURNED = "value", "copy", "place", "bound", "return
 # Methods of the library that take a number, by name: what they return, from the type of the number.
 OF_NUMBERS = {
     "max": lambda kind: kind,
+    "wrapping_add": lambda kind: kind,
     "min": lambda kind: kind,
     "checked_sub": lambda kind: ("Option", kind),
     "checked_add": lambda kind: ("Option", kind),

@@ -4,3 +4,4 @@ pub mod Meets
 pub mod Cut
 pub mod Rearranging
 pub mod Sorting
+pub mod Inserting

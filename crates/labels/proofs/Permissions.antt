@@ -1,17 +1,18 @@
 -- Laws of permissions and of paper 01's order of labels.
-use Prim.Native.Nat.{ℕ, zero, suc, ◌/◌, ◌%◌, ◌≤◌, ◌<◌}
+use Prim.Native.Nat.{ℕ, zero, suc, ◌+◌, ◌*◌, ◌/◌, ◌%◌, ◌≤◌, ◌<◌, min}
 use mathlib.Core.Path.{◌≡◌, refl, sym, ap, ◌∙◌}
-use mathlib.Core.Logic.{◌↔◌, inl, inr}
-use mathlib.Core.Bool.{Bool, true, false, ◌&&◌, false≢true}
+use mathlib.Core.Logic.{◌↔◌, ◌⊎◌, inl, inr, ⊎_elim}
+use mathlib.Core.Bool.{Bool, true, false, ◌&&◌, ◌||◌, false≢true}
 use mathlib.Core.List.{List, [], ◌∷◌}
 use native.Mathlib.Omega.{arith}
+use lib.Bits.{bit_and, and_step, and_zero_r}
 use lib.Dec.{eqb}
 use lib.ListN.{length}
 use borrow.Author.Tests.{eqb-true}
 use Rattle.basics.specs.Lists.{at}
-use Rattle.basics.proofs.Tests.{and_iff, cond_le}
+use Rattle.basics.proofs.Tests.{and_iff, or_iff, cond_le}
 use Rattle.labels.specs.Labels.{place, Earlier}
-use Rattle.labels.specs.Permission.{permits, bit, permission, restrict, only, label_of}
+use Rattle.labels.specs.Permission.{permits, bit, permission, restrict, join, only, label_of}
 
 -- what is permitted is a label
 pub permits_label : (p x : ℕ) → permits p x ≡ true → x ≤ 2
@@ -115,6 +116,55 @@ module _ (q : ℕ) (f : ℕ → Bool) where
 
   pub restrict_some : 0 < restrict q (f 0) (f 1) (f 2) → (x : ℕ) × (permits (restrict q (f 0) (f 1) (f 2)) x ≡ true)
   restrict_some = made_some (λ y. permits q y && f y)
+
+-- joined permissions permit what one of them permits
+pub join_iff : (p q x : ℕ) → (permits (join p q) x ≡ true) ↔ ((permits p x ≡ true) ⊎ (permits q x ≡ true))
+join_iff p q x =
+    let m = made_iff (λ y. permits p y || permits q y) x in
+    let b = or_iff {a = permits p x} {b = permits q x} (λ e. e, λ e. e) (λ e. e, λ e. e) in
+    (λ h. b.0 (m.0 h).1, λ h. m.1 (⊎_elim (permits_label p x) (permits_label q x) h, b.1 h))
+
+pub permission_small : (a b c : Bool) → permission a b c < 8
+unfolding permission
+permission_small a b c = omega (arith, bit_le a, bit_le b, bit_le c)
+
+-- ---- what two permissions both permit, digit by digit
+
+digit_and : (a : Bool) (d : ℕ) → d < 2 → min d (bit a) ≡ bit (eqb d 1 && a)
+digit_and true zero h = refl
+digit_and true (suc zero) h = refl
+digit_and false zero h = refl
+digit_and false (suc zero) h = refl
+digit_and a (suc (suc d)) h = absurd (omega arith)
+
+-- the digits that two numbers share, below 8
+and_three : (p q : ℕ) → q < 8 → bit_and p q ≡ min (p % 2) (q % 2) + min (p / 2 % 2) (q / 2 % 2) * 2 + min (p / 4 % 2) (q / 4 % 2) * 4
+and_three p q h =
+    let e : q / 2 / 2 / 2 ≡ 0 = omega arith in
+    let f : p / 2 / 2 ≡ p / 4 = omega arith in
+    let g : q / 2 / 2 ≡ q / 4 = omega arith in
+    rw (and_step p q, and_step (p / 2) (q / 2), and_step (p / 2 / 2) (q / 2 / 2), e, and_zero_r (p / 2 / 2 / 2), f, g) (omega arith)
+
+pub and_permission : (q : ℕ) (a b c : Bool) → bit_and q (permission a b c) ≡ restrict q a b c
+unfolding permission
+and_permission q a b c =
+    let h : (bit a ≤ 1) × (bit b ≤ 1) × (bit c ≤ 1) = (bit_le a, bit_le b, bit_le c) in
+    let m = bit a + bit b * 2 + bit c * 4 in
+    let e0 : m % 2 ≡ bit a = omega (arith, h) in
+    let e1 : m / 2 % 2 ≡ bit b = omega (arith, h) in
+    let e2 : m / 4 % 2 ≡ bit c = omega (arith, h) in
+    and_three q m (omega (arith, h))
+    ∙ rw (e0, e1, e2, digit_and a (q % 2) (omega arith), digit_and b (q / 2 % 2) (omega arith), digit_and c (q / 4 % 2) (omega arith)) refl
+
+only_is : (x : ℕ) → x ≤ 2 → only x ≡ permission (eqb x 0) (eqb x 1) (eqb x 2)
+unfolding only permission
+only_is zero h = refl
+only_is (suc zero) h = refl
+only_is (suc (suc zero)) h = refl
+only_is (suc (suc (suc x))) h = absurd (omega arith)
+
+pub and_only : (q x : ℕ) → x ≤ 2 → bit_and q (only x) ≡ restrict q (eqb x 0) (eqb x 1) (eqb x 2)
+and_only q x h = rw (only_is x h) (and_permission q (eqb x 0) (eqb x 1) (eqb x 2))
 
 -- ---- the order of labels
 

@@ -1,6 +1,6 @@
 // Permissions: which labels a row may have, as a number whose bit x permits the label x. They stay bytes with functions, not a type with methods: the definitions take lists of numbers, and a struct of one byte would be wrapped and unwrapped at each place of the lists that the core is lent.
-ghost use Rattle.std.specs.Prelude.{◌≡◌};
-ghost use Rattle.labels.specs.Permission.{permits, permission, restrict, only, label_of};
+ghost use Rattle.std.specs.Prelude.{◌≡◌, ◌≤◌, eqb};
+ghost use Rattle.labels.specs.Permission.{permits, permission, restrict, join, only, label_of};
 
 // Whether a permission permits a label.
 pub fn may_have(perm: u8, label: u8) -> bool
@@ -49,12 +49,29 @@ pub fn permission_of(zero: bool, one: bool, two: bool) -> u8
 }
 
 // What is left of a permission where the tests say which of the labels 0, 1 and 2 may stay.
+#[tactic(auto, using(crate::proofs::Permissions::and_permission))]
 pub fn restricted(perm: u8, zero: bool, one: bool, two: bool) -> u8
     ensures { result ≡ restrict perm zero one two }
 {
+    perm & permission_of(zero, one, two)
+}
+
+// What is left of a permission where one label alone may stay.
+#[tactic(auto, using(crate::proofs::Permissions::and_only))]
+pub fn restricted_to(perm: u8, label: u8) -> u8
+    requires { label ≤ 2 }
+    ensures { result ≡ restrict perm (eqb label 0) (eqb label 1) (eqb label 2) }
+{
+    perm & only_label(label)
+}
+
+// What one of two permissions permits.
+pub fn joined(p: u8, q: u8) -> u8
+    ensures { result ≡ join p q }
+{
     permission_of(
-        may_have(perm, 0) && zero,
-        may_have(perm, 1) && one,
-        may_have(perm, 2) && two,
+        may_have(p, 0) || may_have(q, 0),
+        may_have(p, 1) || may_have(q, 1),
+        may_have(p, 2) || may_have(q, 2),
     )
 }

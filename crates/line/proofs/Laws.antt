@@ -1,24 +1,14 @@
 -- Laws of the definitions that the contracts cite: rows of lists, how large `best` is, and that it asks of an end only which rows start later.
 use mathlib.Core.Path.{◌≡◌, refl}
 use mathlib.Core.List.{List, [], ◌∷◌}
-use mathlib.Core.Bool.{Bool, true, false, cond, ◌&&◌}
-use Prim.Native.Nat.{ℕ, zero, suc, ◌+◌, ◌-◌, ◌≤◌, ◌<◌}
-use native.Mathlib.Numerals.{sub-one}
+use mathlib.Core.Bool.{Bool, true, false, ◌&&◌}
+use Prim.Native.Nat.{ℕ, zero, suc, ◌+◌, ◌≤◌, ◌<◌}
 use native.Mathlib.Omega.{arith}
 use native.Mathlib.Nat.{le_refl}
-use borrow.Author.Tests.{leb-true, leb-false}
 use lib.Dec.{leb}
 use lib.ListN.{length, get_or, drop}
 use Rattle.labels.specs.Permission.{permits}
 use Rattle.line.specs.Line.{Row, row, rows, when, gain, cell, best}
-use Rattle.line.specs.Cells.{end_at}
-use Rattle.line.specs.Stage.{carry}
-
--- ---- numbers and lists
-
-pub end_at_pos : (es : List ℕ) (a : ℕ) → (a ≡ 0 → ⊥) → get_or es (a - 1) 0 ≡ end_at es a
-end_at_pos es zero h = absurd (h refl)
-end_at_pos es (suc a) h = rw sub-one
 
 -- ---- the size of `best`
 
@@ -26,7 +16,7 @@ when_le : (b : Bool) (v : ℕ) → when b v ≤ v
 when_le true v = le_refl v
 when_le false v = omega arith
 
-gain_le : (v : ℕ) → gain v ≤ v + 1
+pub gain_le : (v : ℕ) → gain v ≤ v + 1
 unfolding gain
 gain_le zero = omega arith
 gain_le (suc v) = omega arith
@@ -85,17 +75,3 @@ start_rows (s ∷ ss) [] ps i h = absurd (omega arith)
 start_rows (s ∷ ss) (e ∷ es) [] i h = absurd (omega arith)
 start_rows (s ∷ ss) (e ∷ es) (p ∷ ps) zero h = refl
 start_rows (s ∷ ss) (e ∷ es) (p ∷ ps) (suc i) h = start_rows ss es ps i (omega arith)
-
--- ---- last rows carried to the next row
-
-pub data Carried (next e a : ℕ) : ℕ → Type 0 where
-  over : e ≤ next → Carried next e a 0
-  live : next < e → Carried next e a a
-
-pub carry_is : (next e a : ℕ) → Carried next e a (carry next e a)
-unfolding carry
-carry_is next e a = by (leb e next) refl
-  where
-    by : (b : Bool) → leb e next ≡ b → Carried next e a (cond b 0 a)
-    by true h = over (leb-true e next h)
-    by false h = live (leb-false e next h)

@@ -11,23 +11,18 @@ use borrow.Author.Tests.{eqb-true, eqb-false, eq-eqb, ne_eqb, leb-true, leb-fals
 use lib.Dec.{eqb, leb}
 use lib.ListN.{length}
 use Rattle.basics.specs.Lists.{at}
-use Rattle.labels.specs.Labels.{hears, heard, Assignment}
+use Rattle.labels.specs.Labels.{hears, heard}
 use Rattle.labels.specs.Permission.{permits}
-use Rattle.line.specs.Line.{Row, row, rows, when, gain, cell, best, Line}
-
--- labels that obey every permission and leave no two rows of one receiver with a tick in common
-abbrev pub Settled : List ℕ → List ℕ → List ℕ → List ℕ → Type 0
-Settled starts ends perms =
-    Assignment (length starts) (λ i x. permits (at perms i) x ≡ true) (λ i j. (at ends i ≤ at starts j) ⊎ (at ends j ≤ at starts i) → ⊥)
+use Rattle.line.specs.Line.{Row, row, rows, when, gain, cell, best, Line, Settled}
 
 -- Receiver y is busy until f y; so it is after a row that ends at e got the label x.
-abbrev put : (ℕ → ℕ) → ℕ → ℕ → ℕ → ℕ
+abbrev pub put : (ℕ → ℕ) → ℕ → ℕ → ℕ → ℕ
 put f x e y = cond (eqb x y) e (f y)
 
-put_same : (f : ℕ → ℕ) (x e y : ℕ) → x ≡ y → put f x e y ≡ e
+pub put_same : (f : ℕ → ℕ) (x e y : ℕ) → x ≡ y → put f x e y ≡ e
 put_same f x e y h = rw (eq-eqb x y h)
 
-put_other : (f : ℕ → ℕ) (x e y : ℕ) → (x ≡ y → ⊥) → put f x e y ≡ f y
+pub put_other : (f : ℕ → ℕ) (x e y : ℕ) → (x ≡ y → ⊥) → put f x e y ≡ f y
 put_other f x e y h = rw (ne_eqb x y h)
 
 -- every row with a receiver starts when the receiver is no longer busy
@@ -37,11 +32,11 @@ Free f ss l = (j : ℕ) → j < length ss → at l j ≢ 0 → f (at l j) ≤ at
 -- ---- one row
 
 -- the best of the rows rs after row r got the label x
-abbrev rest : (ℕ → ℕ) → Row → List Row → ℕ → ℕ
+abbrev pub rest : (ℕ → ℕ) → Row → List Row → ℕ → ℕ
 rest f r rs x = best rs (put f x r.end 1) (put f x r.end 2)
 
 -- what the label x is worth to row r before the rows rs
-abbrev value : (ℕ → ℕ) → Row → List Row → ℕ → ℕ
+abbrev pub value : (ℕ → ℕ) → Row → List Row → ℕ → ℕ
 value f r rs zero = when (permits r.perm 0) (rest f r rs 0)
 value f r rs (suc x) = when (permits r.perm (suc x) && leb (f (suc x)) r.start) (gain (rest f r rs (suc x)))
 
@@ -78,19 +73,23 @@ module _ (f : ℕ → ℕ) (r : Row) (rs : List Row) where
   unfolding best cell
   best_value = refl
 
-  value_le : (x : ℕ) → value f r rs x ≤ best (r ∷ rs) (f 1) (f 2)
+  pub value_le : (x : ℕ) → value f r rs x ≤ best (r ∷ rs) (f 1) (f 2)
   value_le zero = omega (arith, best_value)
   value_le (suc zero) = omega (arith, best_value)
   value_le (suc (suc zero)) = omega (arith, best_value)
   value_le (suc (suc (suc x))) = omega arith
 
-  -- a label that the row may have is worth one more than it leaves
-  value_of : (x : ℕ) (l : List ℕ) → permits r.perm x ≡ true → (x ≢ 0 → f x ≤ r.start) → suc (heard l) ≤ rest f r rs x → suc (heard (x ∷ l)) ≤ value f r rs x
-  unfolding heard hears
-  value_of zero l m g h = rw m (omega arith)
-  value_of (suc x) l m g h =
+  -- a label that the row may have is worth what it hears and what it leaves
+  pub value_more : (x : ℕ) → permits r.perm x ≡ true → (x ≢ 0 → f x ≤ r.start) → 0 < rest f r rs x → hears x + rest f r rs x ≤ value f r rs x
+  unfolding hears
+  value_more zero m g h = rw m (omega arith)
+  value_more (suc x) m g h =
       let e = hears_of r.perm x m in
-      rw (m, le-leb (f (suc x)) r.start (g (λ q. omega arith))) (omega (arith, gain_of (rest f r rs (suc x)) (omega arith)))
+      rw (m, le-leb (f (suc x)) r.start (g (λ q. omega arith))) (omega (arith, gain_of (rest f r rs (suc x)) h))
+
+  value_of : (x : ℕ) (l : List ℕ) → permits r.perm x ≡ true → (x ≢ 0 → f x ≤ r.start) → suc (heard l) ≤ rest f r rs x → suc (heard (x ∷ l)) ≤ value f r rs x
+  unfolding heard
+  value_of x l m g h = omega (arith, value_more x m g (omega arith))
 
   -- a label that is worth c + 1: the row may have it, and it leaves what it is worth
   value_inv : (x c : ℕ) → value f r rs x ≡ suc c
@@ -109,11 +108,13 @@ module _ (s e p : ℕ) (ss es ps : List ℕ) where
   line_tail : Line (s ∷ ss) (e ∷ es) (p ∷ ps) → Line ss es ps
   line_tail n =
       record {
-        few = omega (arith, n.few);
-        each_end = omega (arith, n.each_end);
+        on_line = record {
+          few = omega (arith, n.on_line.few);
+          each_end = omega (arith, n.on_line.each_end);
+          order = λ i j h k. n.on_line.order (suc i) (suc j) (omega arith) (omega arith);
+          proper = λ i h. n.on_line.proper (suc i) (omega arith);
+        };
         each_perm = omega (arith, n.each_perm);
-        order = λ i j h k. n.order (suc i) (suc j) (omega arith) (omega arith);
-        proper = λ i h. n.proper (suc i) (omega arith);
       }
 
   module _ (x : ℕ) (l : List ℕ) where
@@ -139,7 +140,7 @@ module _ (s e p : ℕ) (ss es ps : List ℕ) where
             (a.apart 0 (suc j) (omega arith) (omega arith) (λ o. omega arith) (rw z q) z
             (⊎_elim
             (λ u. omega (arith, leb-false e (at ss j) t))
-            (λ u. omega (arith, n.order 0 (suc j) (omega arith) (omega arith), n.proper (suc j) (omega arith)))))
+            (λ u. omega (arith, n.on_line.order 0 (suc j) (omega arith) (omega arith), n.on_line.proper (suc j) (omega arith)))))
 
         same : x ≡ at l j → put f x e (at l j) ≤ at ss j
         same z = rw (put_same f x e (at l j) z) (late (leb e (at ss j)) refl z)
@@ -153,7 +154,7 @@ module _ (s e p : ℕ) (ss es ps : List ℕ) where
     free_cons f n g h (suc j) k q = go (ℕ_discrete x (at l j))
       where
         go : Dec (x ≡ at l j) → f (at l j) ≤ at ss j
-        go (yes z) = rw (← z) (le_trans (g (rw z q)) (n.order 0 (suc j) (omega arith) (omega arith)))
+        go (yes z) = rw (← z) (le_trans (g (rw z q)) (n.on_line.order 0 (suc j) (omega arith) (omega arith)))
         go (no z) = rw (put_other f x e (at l j) z) at (h j (omega arith) q)
 
     settled_cons : (f : ℕ → ℕ) → permits p x ≡ true → Settled ss es ps l → Free (put f x e) ss l → Settled (s ∷ ss) (e ∷ es) (p ∷ ps) (x ∷ l)
@@ -180,7 +181,7 @@ complete : (ss es ps : List ℕ) (f : ℕ → ℕ) (l : List ℕ) → Line ss es
 unfolding best rows heard
 complete [] es ps f [] n a h = omega arith
 complete [] es ps f (x ∷ l) n a h = absurd (omega (arith, a.each))
-complete (s ∷ ss) [] ps f l n a h = absurd (omega (arith, n.each_end))
+complete (s ∷ ss) [] ps f l n a h = absurd (omega (arith, n.on_line.each_end))
 complete (s ∷ ss) (e ∷ es) [] f l n a h = absurd (omega (arith, n.each_perm))
 complete (s ∷ ss) (e ∷ es) (p ∷ ps) f [] n a h = absurd (omega (arith, a.each))
 complete (s ∷ ss) (e ∷ es) (p ∷ ps) f (x ∷ l) n a h =
@@ -198,7 +199,7 @@ sound [] es ps f c n h = (
   omega arith,
   λ j k. absurd (omega arith),
 )
-sound (s ∷ ss) [] ps f c n h = absurd (omega (arith, n.each_end))
+sound (s ∷ ss) [] ps f c n h = absurd (omega (arith, n.on_line.each_end))
 sound (s ∷ ss) (e ∷ es) [] f c n h = absurd (omega (arith, n.each_perm))
 sound (s ∷ ss) (e ∷ es) (p ∷ ps) f c n h =
     let r = row s e p in

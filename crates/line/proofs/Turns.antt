@@ -1,259 +1,195 @@
--- Laws of the turn of a row: one for each step and one for the end of each loop, and for some the beginning.
-use mathlib.Core.Path.{◌≡◌, refl, ap, sym, ◌∙◌}
+-- Laws of the turn of a row, over the receiver: the places of cells, and the cells that are made one after the other.
+use mathlib.Core.Path.{◌≡◌, refl, sym, ap, ◌∙◌}
+use mathlib.Core.Logic.{⊎_elim}
+use mathlib.Core.Bool.{Bool, true, false, cond}
 use mathlib.Core.List.{List}
-use mathlib.Core.Logic.{◌⊎◌, ⊎_elim, inl, inr}
-use Prim.Native.Nat.{ℕ, zero, suc, ◌+◌, ◌-◌, ◌*◌, ◌≤◌, ◌<◌}
-use native.Mathlib.Nat.{le_refl, eq-or-lt_of_le}
-use native.Mathlib.Numerals.{add-one}
+use Prim.Native.Nat.{ℕ, ◌+◌, ◌-◌, ◌≤◌, ◌<◌}
 use native.Mathlib.Omega.{arith}
+use native.Mathlib.Nat.{eq-or-lt_of_le}
 use borrow.Author.Count.{below_more}
-use borrow.Author.Tests.{le-leb}
-use lib.ListN.{length, get_or, drop, set, length-drop, drop_of_length-le, get_or-eq_default}
+use borrow.Author.Tests.{le-leb, lt-leb}
+use lib.Dec.{leb}
+use lib.ListN.{length, get_or, drop, set, length-set}
 use lib.Seq.{get_or-set_same, get_or-set_other, drop-set-lt, get_or-drop}
-use Rattle.std.proofs.lemmas.Bool.{cases_lt}
-use Rattle.std.proofs.lemmas.List.{get_or_default}
-use Rattle.basics.specs.Lists.{at}
-use Rattle.line.specs.Line.{row, rows, cell, best, Line}
-use Rattle.line.specs.Cells.{cell_at, end_at, low_at, Lows, across, cell_bytes, core_bytes}
-use Rattle.line.specs.Stage.{carry, carry_at, Live, Turn, LiveBelow, new_cell, Small, RowMade, StageMade}
-use Rattle.line.proofs.Laws.{end_at_pos, Carried, over, live, carry_is, best_le, Same, best_same, drop_rows, length_rows, start_rows, row_at}
+use Rattle.std.proofs.lemmas.List.{drop-drop}
+use Rattle.line.specs.declared.Receiver.{Receiver}
+use Rattle.line.specs.declared.Receiver.TheVariants.{One, Two}
+use Rattle.basics.specs.Limits.{max_rows}
+use Rattle.line.specs.Cells.{cell_bytes, line_bytes, cell_at, high_at, next_at}
+use Rattle.labels.specs.Permission.{permits}
+use Rattle.line.specs.Turns.{label, place, other, side_at, last_heard, Ready, both_value, next_value, new_value, FirstMade, SideMade, SidesMade, TurnMade}
 
--- the start of row k; past the last row a tick at which every row is over
-abbrev pub start_at : List ℕ → ℕ → ℕ
-start_at starts k = get_or starts k 65535
+-- ---- places
 
--- the cells that matter hold what is best from row k on
-abbrev pub Holds : List ℕ → List ℕ → List ℕ → ℕ → List ℕ → Type 0
-Holds ss es ps k t =
-    (a b : ℕ) → a ≤ k → b ≤ k → Live es (start_at ss k) a → Live es (start_at ss k) b → cell_at t a b ≡ best (drop k (rows ss es ps)) (end_at es a) (end_at es b)
+pub place_same : (x : Receiver) (a b a' b' : ℕ) → a ≤ 64 → b ≤ 64 → a' ≤ 64 → b' ≤ 64 → place x a b ≡ place x a' b' → (a ≡ a') × (b ≡ b')
+place_same One a b a' b' ha hb ha' hb' e = let q : a ≡ a' = omega arith in (q, omega arith)
+place_same Two a b a' b' ha hb ha' hb' e = let q : b ≡ b' = omega arith in (omega arith, q)
 
--- the low rows of the rows before n stand after the cells
-pub record LowsMade (starts ends : List ℕ) (n : ℕ) (t t' : List ℕ) : Type 0 where
-  pub within : (k : ℕ) → k < n → get_or t' (cell_bytes + k) 0 ≤ k
-  pub over : (k i : ℕ) → k < n → i < get_or t' (cell_bytes + k) 0 → at ends i ≤ at starts k
-  pub rest : drop core_bytes t' ≡ drop core_bytes t
+pub place_below : (x : Receiver) (a b : ℕ) → a ≤ 64 → b ≤ 64 → place x a b < cell_bytes
+place_below One a b ha hb = omega arith
+place_below Two a b ha hb = omega arith
 
--- ---- the next last row to visit
+-- ---- bytes that stay
 
-module _ (es : List ℕ) (s m : ℕ) where
-  pub live_none : LiveBelow es s m m
-  live_none = record { below = omega arith; over = λ y h k. absurd (omega arith) }
+pub drop_later : (t t' : List ℕ) (m n : ℕ) → m ≤ n → drop m t' ≡ drop m t → drop n t' ≡ drop n t
+drop_later t t' m n h e =
+    let q : m + (n - m) ≡ n = omega arith in
+    rw (← q) (sym (drop-drop (n - m) m t') ∙ ap (drop (n - m)) e ∙ drop-drop (n - m) m t)
 
-  -- one more is over
-  pub live_less : (a : ℕ) → LiveBelow es s m a → 0 < a → get_or es (a - 1) 0 ≤ s → LiveBelow es s m (a - 1)
-  live_less a l h o =
+-- a byte from n on is the same if all from n on are
+pub rest_at : (t t' : List ℕ) (n i : ℕ) → drop n t' ≡ drop n t → n ≤ i → get_or t' i 0 ≡ get_or t i 0
+rest_at t t' n i e h =
+    let q : n + (i - n) ≡ i = omega arith in
+    rw (← q) (sym (get_or-drop n t' (i - n) 0) ∙ ap (λ (l : List ℕ). get_or l (i - n) 0) e ∙ get_or-drop n t (i - n) 0)
+
+-- ---- the cells where both are free from row j or the next one on
+
+module _ {p j u : ℕ} {t : List ℕ} where
+  pub first_made : {v v1 v2 : ℕ} → cell_bytes ≤ length t → j < 64 → v ≡ both_value p j u t → v1 ≡ next_value One p j u t → v2 ≡ next_value Two p j u t
+      → FirstMade p j u t (set (set (set t (place One j j) v) (place One j (j + 1)) v1) (place Two j (j + 1)) v2)
+  first_made {v} {v1} {v2} long few e e1 e2 =
       record {
-        below = omega (arith, l.below);
-        over = λ y k u.
-            ⊎_elim
-            (λ (e : a ≡ y). rw (← e) (omega (arith, end_at_pos es a (λ z. omega arith))))
-            (λ (e : a < y). l.over y e u)
-            (eq-or-lt_of_le (omega arith));
-      }
-
-  -- all above low are over, and all up to low are over as well
-  pub live_low : (a low : ℕ) → LiveBelow es s m a → a ≤ low → ((i : ℕ) → i < low → at es i ≤ s) → LiveBelow es s m 0
-  live_low a low l h o =
-      record {
-        below = omega arith;
-        over = λ y u v.
-            ⊎_elim
-            (λ w. l.over y w v)
-            (λ w. omega (arith, o (y - 1) (omega arith), end_at_pos es y (λ z. omega arith)))
-            (cases_lt a y);
-      }
-
-  -- none that is passed over matters
-  pub live_passed : (r : ℕ) → LiveBelow es s m r → (y : ℕ) → r < y → y < m + 1 → Live es s y → ⊥
-  live_passed r l y h k = ⊎_elim (λ e. omega arith) (λ e. omega (arith, l.over y h (omega arith)))
-
--- ---- the cells of a row of cells
-
-pub carry_le : (next e a : ℕ) → carry next e a ≤ a
-carry_le next e a = by (carry_is next e a)
-  where
-    by : {c : ℕ} → Carried next e a c → c ≤ a
-    by (over h) = omega arith
-    by (live h) = omega arith
-
--- a carried last row is none or itself
-pub carry_two : (next e a : ℕ) → (carry next e a ≡ 0) ⊎ (carry next e a ≡ a)
-carry_two next e a = by (carry_is next e a)
-  where
-    by : {c : ℕ} → Carried next e a c → (c ≡ 0) ⊎ (c ≡ a)
-    by (over h) = inl refl
-    by (live h) = inr refl
-
-module _ {L : ℕ → Type 0} {N : ℕ → ℕ → ℕ} (k a : ℕ) (t : List ℕ) where
-  -- one cell more; those between it and the last one do not matter
-  pub row_more : (m b : ℕ) (t' : List ℕ) (v : ℕ) → RowMade L N k a m t t' → b < m → ((y : ℕ) → b < y → y < m → L y → ⊥) → a ≤ k → b ≤ k
-      → k < 64 → cell_bytes ≤ length t' → v ≡ N a b → RowMade L N k a b t (set t' (a * across + b) v)
-  row_more m b t' v r hb passed ha hk hl ht e =
-      record {
-        new = λ y u w l.
-            ⊎_elim
-            (λ (q : b ≡ y). rw (← q) (get_or-set_same t' (a * across + b) v 0 (omega arith) ∙ e))
-            (λ (q : b < y). get_or-set_other t' (a * across + b) (a * across + y) v 0 (omega arith) ∙ ⊎_elim (λ z. absurd (passed y q z l)) (λ z. r.new y z w l) (cases_lt y m))
-            (eq-or-lt_of_le u);
-        kept = λ j h.
-            get_or-set_other t' (a * across + b) j v 0 (λ q. h (omega arith) (omega arith))
-            ∙ r.kept j (λ u w. h (omega arith) w);
-        rest = drop-set-lt cell_bytes t' (a * across + b) v (omega arith) ∙ r.rest;
-      }
-
-module _ {L : ℕ → Type 0} {N : ℕ → ℕ → ℕ} (es : List ℕ) (next k a m : ℕ) (t t' : List ℕ) (r : RowMade L N k a m t t')
-    (ha : a ≤ k) (hk : k < 64) (b : ℕ) (hb : b < m) (hm : m ≤ k + 1) where
-  -- the cells that cell (a, b) reads are as they were, while the cells from m on are made
-  pub row_out : cell_at t' (carry_at es next a) (carry_at es next b) ≡ cell_at t (carry_at es next a) (carry_at es next b)
-  row_out = r.kept _ (omega (arith, carry_le next (end_at es a) a, carry_le next (end_at es b) b))
-
-  pub row_one : cell_at t' (carry_at es next (k + 1)) (carry_at es next b) ≡ cell_at t (carry_at es next (k + 1)) (carry_at es next b)
-  row_one =
-      let le = carry_le next (end_at es b) b in
-      r.kept _ (⊎_elim (λ q. omega arith) (λ q. omega arith) (carry_two next (end_at es (k + 1)) (k + 1)))
-
-  -- the value that is made of them is cell (a, b)'s
-  pub row_value : (p s : ℕ) {v ea eb x y z : ℕ} → ea ≡ end_at es a → eb ≡ end_at es b → x ≡ carry_at es next a → y ≡ carry_at es next b → z ≡ carry_at es next (k + 1)
-      → v ≡ cell p s ea eb (cell_at t' x y) (cell_at t' z y) (cell_at t x z) → v ≡ new_cell es p s next k t a b
-  row_value p s qa qb qx qy qz e = rw (qa, qb, qx, qy, qz) at e ∙ rw (row_out, row_one)
-
--- ---- the rows of cells
-
-module _ {L : ℕ → Type 0} {N : ℕ → ℕ → ℕ} (k : ℕ) (t : List ℕ) where
-  -- one row of cells more
-  pub stage_more : (m a : ℕ) (t' t'' : List ℕ) {N' : ℕ → ℕ → ℕ} → StageMade L N k m t t' → RowMade L N' k a 0 t' t'' → a < m
-      → ((y : ℕ) → a < y → y < m → L y → ⊥) → a ≤ k → k < 64
-      → ((b : ℕ) → b ≤ k → N' a b ≡ N a b) → StageMade L N k a t t''
-  stage_more m a t' t'' s r ha passed hk hl same =
-      record {
-        new = λ y b u w z l q.
-            ⊎_elim
-            (λ (e : a ≡ y). rw (← e) (r.new b (omega arith) z q ∙ same b z))
-            (λ (e : a < y).
-            r.kept (y * across + b) (λ g h. omega arith)
-            ∙ ⊎_elim (λ g. absurd (passed y e g l)) (λ g. s.new y b g w z l q) (cases_lt y m))
-            (eq-or-lt_of_le u);
-        kept = λ j h. r.kept j (λ u w. h (omega arith) (omega arith)) ∙ s.kept j (λ u w. h (omega arith) w);
-        rest = r.rest ∙ s.rest;
-      }
-
-module _ {L : ℕ → Type 0} {N : ℕ → ℕ → ℕ} (es : List ℕ) (next k m : ℕ) (t t' : List ℕ) (s : StageMade L N k m t t')
-    (hk : k < 64) (a : ℕ) (ha : a < m) (hm : m ≤ k + 1) where
-  -- the cells that the cells of row a read are as they were, while the rows from m on are made
-  stage_kept : (x y : ℕ) → x ≤ a → y ≤ k + 1 → cell_at t' x y ≡ cell_at t x y
-  stage_kept x y hx hy = s.kept (x * across + y) (omega arith)
-
-  stage_one : (b : ℕ) → b ≤ k → cell_at t' (carry_at es next (k + 1)) (carry_at es next b) ≡ cell_at t (carry_at es next (k + 1)) (carry_at es next b)
-  stage_one b hb =
-      let le = carry_le next (end_at es b) b in
-      s.kept _ (⊎_elim (λ q. omega arith) (λ q. omega arith) (carry_two next (end_at es (k + 1)) (k + 1)))
-
-  stage_two : cell_at t' (carry_at es next a) (carry_at es next (k + 1)) ≡ cell_at t (carry_at es next a) (carry_at es next (k + 1))
-  stage_two = stage_kept _ _ (carry_le next (end_at es a) a) (carry_le next (end_at es (k + 1)) (k + 1))
-
-  pub stage_cell : (p st b : ℕ) → b ≤ k → new_cell es p st next k t' a b ≡ new_cell es p st next k t a b
-  stage_cell p st b hb =
-      let le : carry_at es next b ≤ k + 1 = omega (arith, carry_le next (end_at es b) b) in
-      rw (stage_kept _ _ (carry_le next (end_at es a) a) le, stage_one b hb, stage_two)
-
-  pub stage_small : Small es next k a t → Small es next k a t'
-  stage_small h = record { one = λ b hb. rw (stage_one b hb) (h.one b hb); two = rw stage_two h.two }
-
--- ---- the low rows
-
-module _ (ss es t : List ℕ) where
-  pub lows_none : LowsMade ss es 0 t t
-  lows_none = record { within = λ k h. absurd (omega arith); over = λ k i h. absurd (omega arith); rest = refl }
-
-  pub lows_more : (n v : ℕ) (t' : List ℕ) → LowsMade ss es n t t' → n < 64 → core_bytes ≤ length t' → v ≤ n
-      → ((i : ℕ) → i < v → at es i ≤ at ss n) → LowsMade ss es (n + 1) t (set t' (cell_bytes + n) v)
-  lows_more n v t' m h hl hv o =
-      record {
-        within = below_more _ n (λ k u. rw (other k u) (m.within k u)) (rw same hv);
-        over = λ k i u. below_more (λ k. i < low_at (set t' (cell_bytes + n) v) k → at es i ≤ at ss k) n (λ k u w. m.over k i u (rw (other k u) at w)) (λ w. o i (rw same at w)) k u;
-        rest = drop-set-lt core_bytes t' (cell_bytes + n) v (omega arith) ∙ m.rest;
+        both = others j j (λ q. omega arith) (λ q. omega arith) ∙ get_or-set_same t (place One j j) v 0 (omega arith) ∙ e;
+        next = next;
+        kept = λ x y hx hy wx wy.
+            others x y (λ q. omega arith) (λ q. omega arith)
+            ∙ get_or-set_other t (place One j j) (place One x y) v 0 (λ q. omega arith);
+        rest =
+            drop-set-lt cell_bytes second (place Two j (j + 1)) v2 (omega arith)
+            ∙ drop-set-lt cell_bytes first (place One j (j + 1)) v1 (omega arith)
+            ∙ drop-set-lt cell_bytes t (place One j j) v (omega arith);
       }
     where
-      same : low_at (set t' (cell_bytes + n) v) n ≡ v
-      same = get_or-set_same t' (cell_bytes + n) v 0 (omega arith)
+      first : List ℕ
+      first = set t (place One j j) v
 
-      other : (k : ℕ) → k < n → low_at (set t' (cell_bytes + n) v) k ≡ low_at t' k
-      other k u = get_or-set_other t' (cell_bytes + n) (cell_bytes + k) v 0 (omega arith)
+      second : List ℕ
+      second = set first (place One j (j + 1)) v1
 
-  pub lows_done : (n : ℕ) (t' : List ℕ) → LowsMade ss es n t t' → n ≡ length ss → core_bytes ≤ length t' → Lows ss es t'
-  lows_done n t' m e h = record { long = h; within = λ k u. m.within k (omega arith); over = λ k i u. m.over k i (omega arith) }
+      -- a cell that is not one of the last two
+      others : (x y : ℕ) → (place One x y ≡ place One j (j + 1) → ⊥) → (place One x y ≡ place Two j (j + 1) → ⊥)
+          → cell_at (set second (place Two j (j + 1)) v2) x y ≡ cell_at first x y
+      others x y n m =
+          get_or-set_other second (place Two j (j + 1)) (place One x y) v2 0 m
+          ∙ get_or-set_other first (place One j (j + 1)) (place One x y) v1 0 n
 
--- ---- all rows
+      next : (x : Receiver) → side_at x (set second (place Two j (j + 1)) v2) j (j + 1) ≡ next_value x p j u t
+      next One =
+          get_or-set_other second (place Two j (j + 1)) (place One j (j + 1)) v2 0 (λ q. omega arith)
+          ∙ get_or-set_same first (place One j (j + 1)) v1 0 (omega (arith, length-set t (place One j j) v))
+          ∙ e1
+      next Two =
+          get_or-set_same second (place Two j (j + 1)) v2 0 (omega (arith, length-set t (place One j j) v, length-set first (place One j (j + 1)) v1))
+          ∙ e2
 
-pub carry_live_at : (es : List ℕ) (next x : ℕ) → Live es next (carry_at es next x)
-carry_live_at es next x = by (carry_is next (end_at es x) x)
-  where
-    by : {c : ℕ} → Carried next (end_at es x) x c → Live es next c
-    by (over h) = inl refl
-    by (live h) = inr h
+-- ---- the cells where one receiver is free from row j on
 
-module _ (ss es ps : List ℕ) (line : Line ss es ps) where
-  -- row j of those from n on starts no earlier than row n
-  start_later : (n j : ℕ) → j < length (drop n (rows ss es ps)) → start_at ss n ≤ (row_at (drop n (rows ss es ps)) j).start
-  start_later n j h =
-      let u : n + j < length (rows ss es ps) = omega (arith, length-drop n (rows ss es ps)) in
-      let w : n + j < length ss = omega (arith, length_rows ss es ps) in
-      rw (get_or-drop n (rows ss es ps) j (row 0 0 0), start_rows ss es ps (n + j) u, get_or_default ss n 65535 0 (omega arith))
-      (⊎_elim (λ (e : n ≡ n + j). rw (← e) (omega arith)) (λ (e : n < n + j). line.order n (n + j) e w) (eq-or-lt_of_le (omega arith)))
+module _ {x : Receiver} {p j u last : ℕ} {t : List ℕ} where
+  pub side_none : {m : ℕ} → m ≤ j + 2 → SideMade x p j u last m t t
+  side_none h = record { new = λ b k w. absurd (omega arith); kept = λ a b ha hb n. refl; rest = refl }
 
-  -- a last row and what it is carried to are the same to all rows from n on
-  carry_same : (n x : ℕ) → Same (drop n (rows ss es ps)) (end_at es (carry_at es (start_at ss n) x)) (end_at es x)
-  carry_same n x = by (carry_is (start_at ss n) (end_at es x) x)
+  pub side_less : (m n : ℕ) {t' : List ℕ} → m ≤ n → SideMade x p j u last n t t' → SideMade x p j u last m t t'
+  side_less m n h s = record { new = λ b k w. s.new b k (omega arith); kept = s.kept; rest = s.rest }
+
+  -- one cell more: those that it is made from are not among the cells that are made
+  pub side_more : (m : ℕ) {t' t'' : List ℕ} → SideMade x p j u last m t t' → j + 1 < m → m ≤ 64 → j < u → u ≤ 64 → cell_bytes ≤ length t'
+      → t'' ≡ set t' (place x j m) (new_value x p j u last t' m) → SideMade x p j u last (m + 1) t t''
+  side_more m {t'} {t''} s hm hk hu hw hl e =
+      rw e
+      (record {
+        new = λ b k w. below_more (λ b. j + 1 < b → side_at x made j b ≡ new_value x p j u last t b) m before here b w k;
+        kept = λ a b ha hb n.
+            get_or-set_other t' (place x j m) (place x a b) v 0
+            (λ q. let r = place_same x a b j m ha hb (omega arith) hk q in n r.0 (omega (arith, r.1)))
+            ∙ s.kept a b ha hb n;
+        rest = drop-set-lt cell_bytes t' (place x j m) v (omega (arith, place_below x j m (omega arith) hk)) ∙ s.rest;
+      })
     where
-      by : {c : ℕ} → Carried (start_at ss n) (end_at es x) x c → Same (drop n (rows ss es ps)) (end_at es c) (end_at es x)
-      by (over h) j u =
-          let s = (row_at (drop n (rows ss es ps)) j).start in
-          le-leb 0 s (omega arith) ∙ sym (le-leb (end_at es x) s (omega (arith, start_later n j u)))
-      by (live h) j u = refl
+      v : ℕ
+      v = new_value x p j u last t' m
 
-  module _ (k n : ℕ) (t : List ℕ) (e : n ≡ k + 1) (h : k < length ss) (m : Holds ss es ps n t) where
-    -- the cell of two last rows as row n sees them holds what is best from row n on
-    read : (x y : ℕ) → x ≤ k + 1 → y ≤ k + 1
-        → cell_at t (carry_at es (start_at ss n) x) (carry_at es (start_at ss n) y) ≡ best (drop n (rows ss es ps)) (end_at es x) (end_at es y)
-    read x y hx hy =
-        m _ _ (omega (arith, carry_le (start_at ss n) (end_at es x) x)) (omega (arith, carry_le (start_at ss n) (end_at es y) y)) (carry_live_at es (start_at ss n) x) (carry_live_at es (start_at ss n) y)
-        ∙ best_same _ _ _ _ _ (carry_same n x) (carry_same n y)
+      made : List ℕ
+      made = set t' (place x j m) v
 
-    small : (x y : ℕ) → x ≤ k + 1 → y ≤ k + 1 → cell_at t (carry_at es (start_at ss n) x) (carry_at es (start_at ss n) y) < 255
-    small x y hx hy =
-        rw (read x y hx hy)
-        (omega (arith, best_le (drop n (rows ss es ps)) (end_at es x) (end_at es y), length-drop n (rows ss es ps), length_rows ss es ps, line.few))
+      before : (b : ℕ) → b < m → j + 1 < b → side_at x made j b ≡ new_value x p j u last t b
+      before b w k =
+          get_or-set_other t' (place x j m) (place x j b) v 0
+          (λ q. omega (arith, (place_same x j b j m (omega arith) (omega arith) (omega arith) hk q).1))
+          ∙ s.new b k w
 
-    pub holds_small : (next : ℕ) → next ≡ start_at ss n → (a : ℕ) → a ≤ k → Small es next k a t
-    holds_small next q a ha = rw q (record { one = λ b hb. small (k + 1) b (omega arith) (omega arith); two = small a (k + 1) (omega arith) (omega arith) })
+      here : j + 1 < m → side_at x made j m ≡ new_value x p j u last t m
+      here k =
+          get_or-set_same t' (place x j m) v 0 (omega (arith, place_below x j m (omega arith) hk))
+          ∙ rw (s.kept (j + 1) m (omega arith) hk (λ q. omega arith), s.kept u m hw hk (λ q. omega arith))
 
-    pub holds_step : (s next : ℕ) (t' : List ℕ) → next ≡ start_at ss n → s ≡ at ss k → StageMade (Live es s) (new_cell es (at ps k) s next k t) k 0 t t' → Holds ss es ps k t'
-    unfolding best
-    holds_step s next t' q f made a b ha hb la lb =
-        let g : start_at ss k ≡ s = get_or_default ss k 65535 0 h ∙ sym f in
-        made.new a b (omega arith) ha hb (rw g at la) (rw g at lb)
-        ∙ rw (drop_rows ss es ps k h line.each_end line.each_perm, q, read a b (omega arith) (omega arith), read (k + 1) b (omega arith) (omega arith), read a (k + 1) (omega arith) (omega arith), e, add-one, f)
-
-  -- past the last row no row matters, and nothing is left to be heard
-  pub holds_first : (t : List ℕ) → 0 < length t → ((i : ℕ) → at es i ≤ 65535) → Holds ss es ps (length ss) (set t 0 1)
-  unfolding best
-  holds_first t h o a b ha hb la lb =
-      rw (none a la, none b lb, drop_of_length-le (rows ss es ps) (length_rows ss es ps)) (get_or-set_same t 0 1 0 h)
-    where
-      early : (x : ℕ) → end_at es x ≤ 65535
-      early zero = omega arith
-      early (suc x) = o x
-
-      none : (x : ℕ) → Live es (start_at ss (length ss)) x → x ≡ 0
-      none x = ⊎_elim (λ e. e) (λ l. absurd (omega (arith, early x, get_or-eq_default ss 65535 {n = length ss} (le_refl (length ss)))))
-
-  pub holds_last : (k : ℕ) (t : List ℕ) → k ≡ 0 → Holds ss es ps k t → get_or t 0 0 ≡ best (rows ss es ps) 0 0
-  holds_last k t e m = rw e at (m 0 0 (omega arith) (omega arith) (inl refl) (inl refl))
-
--- the turn of row k, from the low rows as they were before any cell was made
-pub turn : (ss es ps t t' : List ℕ) (k : ℕ) → Line ss es ps → Lows ss es t → drop cell_bytes t' ≡ drop cell_bytes t → k < length ss → Turn es (at ss k) k (low_at t' k)
-turn ss es ps t t' k line lows e h =
-    record { few = omega (arith, line.few); within = omega (arith, line.each_end); over = λ i u. lows.over k i h (rw same at u) }
+-- where the other receiver is free from the next row on, a row can be heard whenever its permission says so
+heard_next : (x : Receiver) (p j u must : ℕ) → j < must → j < 64 → leb (j + 1) (last_heard x p u must) ≡ permits p (label x)
+unfolding last_heard
+heard_next x p j u must h k = go (permits p (label x)) (leb u must)
   where
-    same : low_at t' k ≡ low_at t k
-    same = sym (get_or-drop cell_bytes t' k 0) ∙ ap (λ (l : List ℕ). get_or l k 0) e ∙ get_or-drop cell_bytes t k 0
+    go : (a b : Bool) → leb (j + 1) (cond a (cond b 64 must) 0) ≡ a
+    go false b = lt-leb (j + 1) 0 (omega arith)
+    go true true = le-leb (j + 1) 64 (omega arith)
+    go true false = le-leb (j + 1) must (omega arith)
+
+-- ---- all cells of a turn
+
+module _ (p j must : ℕ) (t t0 t1 t2 : List ℕ) (r : Ready t j) (w : j < must) (first : FirstMade p j (next_at t j) t t0)
+    (one : SideMade One p j (next_at t j) (last_heard One p (next_at t j) must) (high_at t 2 j + 1) t0 t1)
+    (two : SideMade Two p j (next_at t j) (last_heard Two p (next_at t j) must) (high_at t 1 j + 1) t1 t2) where
+  -- where the other receiver is free from the next row on
+  next_is : (x : Receiver) → side_at x t2 j (j + 1) ≡ new_value x p j (next_at t j) (last_heard x p (next_at t j) must) t (j + 1)
+  next_is x = made x ∙ rw (heard_next x p j (next_at t j) must w r.few) (first.next x)
+    where
+      i : j + 1 ≤ 64
+      i = omega (arith, r.few)
+
+      made : (x : Receiver) → side_at x t2 j (j + 1) ≡ side_at x t0 j (j + 1)
+      made One = two.kept (j + 1) j i (omega arith) (λ q h. omega arith) ∙ one.kept j (j + 1) (omega arith) i (λ q h. omega arith)
+      made Two = two.kept j (j + 1) (omega arith) i (λ q h. omega arith) ∙ one.kept (j + 1) j i (omega arith) (λ q h. omega arith)
+
+  -- where it is free from a later row on
+  later_is : (x : Receiver) (b : ℕ) → j + 1 < b → b ≤ high_at t (other x) j
+      → side_at x t2 j b ≡ new_value x p j (next_at t j) (last_heard x p (next_at t j) must) t b
+  later_is One b h k =
+      let v : b ≤ 64 = omega (arith, r.high Two) in
+      let i : j + 1 ≤ 64 = omega (arith, r) in
+      two.kept b j v (omega arith) (λ q _. omega arith)
+      ∙ one.new b h (omega (arith, k))
+      ∙ rw (first.kept (j + 1) b (omega arith) (omega arith) i v, first.kept (next_at t j) b r.later (omega arith) r.within v)
+  later_is Two b h k =
+      let v : b ≤ 64 = omega (arith, r.high One) in
+      let i : j + 1 ≤ 64 = omega (arith, r) in
+      two.new b h (omega (arith, k))
+      ∙ rw (
+        one.kept b (j + 1) v i (λ q _. omega arith),
+        first.kept b (j + 1) (omega arith) (omega arith) v i,
+        one.kept b (next_at t j) v r.within (λ q _. omega arith),
+        first.kept b (next_at t j) (omega arith) r.later v r.within,
+      )
+
+  sides_are : TurnMade p j must t t2
+  sides_are =
+      record {
+        both = two.kept j j (omega (arith, r)) (omega (arith, r)) (λ q h. omega arith) ∙ one.kept j j (omega (arith, r)) (omega (arith, r)) (λ q h. omega arith) ∙ first.both;
+        sides = λ x b h k.
+            let l : j + 1 ≤ b = omega arith in
+            ⊎_elim (λ (q : j + 1 ≡ b). rw (← q) (next_is x)) (λ (q : j + 1 < b). later_is x b q k) (eq-or-lt_of_le l);
+        kept = λ a b ha hb wa wb.
+            two.kept b a wb wa (λ q h. omega arith)
+            ∙ one.kept a b wa wb (λ q h. omega arith)
+            ∙ first.kept a b ha hb wa wb;
+        rest = two.rest ∙ one.rest ∙ first.rest;
+      }
+
+module _ {p j must u h1 h2 : ℕ} {t t0 : List ℕ} (r : Ready t j) (w : (j < must) × (must ≤ max_rows)) (e : u ≡ next_at t j) (e1 : h1 ≡ high_at t 1 j) (e2 : h2 ≡ high_at t 2 j)
+    (first : FirstMade p j u t t0) where
+  pub turn_made : {t2 : List ℕ} → SidesMade p j u must h1 h2 t0 t2 → TurnMade p j must t t2
+  turn_made {t2} s = sides_are p j must t t0 s.0 t2 r w.0 (rw e at first) (rw (e, e2) at s.1) (rw (e, e1) at s.2)
+
+  -- where no receiver can be free from a row after the next on
+  pub first_alone : h1 ≤ j + 1 → h2 ≤ j + 1 → TurnMade p j must t t0
+  first_alone k1 k2 = sides_are p j must t t0 t0 t0 r w.0 (rw e at first) (side_none (omega arith)) (side_none (omega arith))
+
+pub turn_rest : {p j must : ℕ} {t t' : List ℕ} → TurnMade p j must t t' → drop line_bytes t' ≡ drop line_bytes t
+turn_rest {t = t} {t' = t'} made = drop_later t t' cell_bytes line_bytes (omega arith) made.rest

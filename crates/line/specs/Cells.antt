@@ -1,8 +1,8 @@
--- Inner: The working space of the line program: 65 by 65 cells of a byte, and after them, for each row, the first row that can still matter when its turn comes.
-use Rattle.std.specs.Prelude.{List, ◌∷◌, ℕ, ◌+◌, ◌*◌, ◌≤◌, ◌<◌, length, get_or}
-use Rattle.basics.specs.Lists.{at}
+-- Inner: The working space of the core, in the order of who writes it: 65 by 65 cells of a byte, and after them bytes for the rows of the line, the crossing rows and the rows of the table.
+use Rattle.std.specs.Prelude.{List, ℕ, ◌+◌, ◌*◌, ◌-◌, get_or}
+use Rattle.basics.specs.Limits.{max_rows}
 
--- the cells stand in rows of 65, one for "none" and one for each row
+-- the cells stand in rows of 65, one for each row of the line and one for "after the last"
 abbrev pub across : ℕ
 across = 65
 
@@ -10,24 +10,38 @@ across = 65
 abbrev pub cell_bytes : ℕ
 cell_bytes = 4225
 
+-- what the line program writes: the cells, and for each row of the line and each receiver a byte
+abbrev pub line_bytes : ℕ
+line_bytes = 4353
+
+-- where the labels found begin; before them stands a byte for each crossing row and for none
+abbrev pub found_from : ℕ
+found_from = 4418
+
+-- where the next rows begin
+abbrev pub next_from : ℕ
+next_from = 4482
+
 -- the working space that the core may use, in bytes
 abbrev pub core_bytes : ℕ
 core_bytes = 4608
 
--- cell (a, b): a is the last row on receiver 1 and b on receiver 2, each counted from 1, 0 for none
+-- cell (x, y): receiver 1 is free from row x on and receiver 2 from row y on
 abbrev pub cell_at : List ℕ → ℕ → ℕ → ℕ
-cell_at space a b = get_or space (a * across + b) 0
+cell_at space x y = get_or space (x * across + y) 0
 
--- when row a - 1 ends; 0 for none
-abbrev pub end_at : List ℕ → ℕ → ℕ
-end_at ends a = get_or (0 ∷ ends) a 0
+-- for row j of the line: the last row from which on receiver x can be free when the row's turn comes
+abbrev pub high_at : List ℕ → ℕ → ℕ → ℕ
+high_at space x j = get_or space (cell_bytes + (x - 1) * max_rows + j) 0
 
--- for row k: no row before this one ends after row k starts
-abbrev pub low_at : List ℕ → ℕ → ℕ
-low_at space k = get_or space (cell_bytes + k) 0
+-- for the crossing row w, or for none: one more than what receiver 2 could hear with it
+abbrev pub worth_at : List ℕ → ℕ → ℕ
+worth_at space w = get_or space (line_bytes + w) 0
 
--- the low rows of all rows stand after the cells
-pub record Lows (starts ends space : List ℕ) : Type 0 where
-  pub long : core_bytes ≤ length space
-  pub within : (k : ℕ) → k < length starts → low_at space k ≤ k
-  pub over : (k i : ℕ) → k < length starts → i < low_at space k → at ends i ≤ at starts k
+-- for row r of the table: the labels found, as a permission
+abbrev pub found_at : List ℕ → ℕ → ℕ
+found_at space r = get_or space (found_from + r) 0
+
+-- for row j of the line: the first row that starts when it is over, or how many rows there are
+abbrev pub next_at : List ℕ → ℕ → ℕ
+next_at space j = get_or space (next_from + j) 0

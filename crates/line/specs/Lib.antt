@@ -1,5 +1,5 @@
 -- What the contracts of the crate `line` cite.
 pub mod Line
 pub mod Cells
-pub mod Stage
-pub mod RowTurns
+pub mod Filled
+pub mod Turns

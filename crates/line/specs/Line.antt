@@ -1,7 +1,9 @@
 -- Inner: Rows on a line, in order of their starts, and the most of them that two receivers can hear.
-use Rattle.std.specs.Prelude.{◌≡◌, List, [], ◌∷◌, Bool, true, false, ◌&&◌, ℕ, zero, suc, ◌≤◌, ◌<◌, max, leb, length}
+use Rattle.std.specs.Prelude.{◌≡◌, ◌⊎◌, List, [], ◌∷◌, Bool, true, false, ◌&&◌, ℕ, zero, suc, ◌≤◌, ◌<◌, max, leb, length, drop}
+use Rattle.std.specs.List.{range_with_len}
 use Rattle.basics.specs.Limits.{max_rows}
 use Rattle.basics.specs.Lists.{at}
+use Rattle.labels.specs.Labels.{Assignment}
 use Rattle.labels.specs.Permission.{permits}
 
 pub record Row : Type 0 where
@@ -39,9 +41,28 @@ best [] e1 e2 = 1
 best (r ∷ rs) e1 e2 = cell r.perm r.start e1 e2 (best rs e1 e2) (best rs r.end e2) (best rs e1 r.end)
 
 -- rows on a line: at most 64, in order of their starts, none empty
-pub record Line (starts ends perms : List ℕ) : Type 0 where
+pub record LineRows (starts ends : List ℕ) : Type 0 where
   pub few : length starts ≤ max_rows
   pub each_end : length ends ≡ length starts
-  pub each_perm : length perms ≡ length starts
   pub order : (i j : ℕ) → i < j → j < length starts → at starts i ≤ at starts j
   pub proper : (i : ℕ) → i < length starts → at starts i < at ends i
+
+-- the same, with a permission for each
+pub record Line (starts ends perms : List ℕ) : Type 0 where
+  pub on_line : LineRows starts ends
+  pub each_perm : length perms ≡ length starts
+
+-- labels that obey every permission and leave no two rows of one receiver with a tick in common
+abbrev pub Settled : List ℕ → List ℕ → List ℕ → List ℕ → Type 0
+Settled starts ends perms =
+    Assignment (length starts) (λ i x. permits (at perms i) x ≡ true) (λ i j. (at ends i ≤ at starts j) ⊎ (at ends j ≤ at starts i) → ⊥)
+
+-- ---- rows by number: row j starts at j and is over at its next row, the first that starts when it is over
+
+-- the starts of n rows by number
+abbrev pub numbers : ℕ → List ℕ
+numbers n = range_with_len 0 n
+
+-- what is best of the rows from j on, receiver 1 free from row x on and receiver 2 from row y on
+abbrev pub best_from : List ℕ → List ℕ → ℕ → ℕ → ℕ → ℕ
+best_from nexts perms j x y = best (drop j (rows (numbers (length perms)) nexts perms)) x y

@@ -1,20 +1,51 @@
 // The line program: how many rows of a line two receivers can hear.
 #![tactic(auto)]
 
-ghost use Rattle.std.specs.Prelude.{◌≡◌, ℕ, ◌<◌, ◌≤◌, ◌&&◌, leb, length, drop};
+ghost use Rattle.std.specs.Prelude.{◌≡◌, true, ℕ, ◌+◌, ◌<◌, ◌≤◌, ◌↔◌, max, length, drop, set};
 ghost use Rattle.basics.specs.Limits.{max_rows};
 ghost use Rattle.basics.specs.Lists.{at};
-ghost use Rattle.line.specs.Line.{when, gain, cell, best, rows, Line};
-ghost use Rattle.line.specs.Cells.{end_at, Lows, cell_bytes, core_bytes};
-ghost use Rattle.line.specs.Stage.{carry_at, Turn, LiveBelow, Small, RowMade, StageMade};
+ghost use Rattle.line.specs.Line.{when, LineRows, best_from};
+ghost use Rattle.line.specs.Cells.{cell_bytes, line_bytes, core_bytes};
+ghost use Rattle.line.specs.Filled.{NextRows, Numbered, Filled, Highs, nexts_of};
+ghost use Rattle.line.specs.declared.Receiver.{Receiver};
+ghost use Rattle.line.specs.declared.Receiver.TheVariants.{One};
+ghost use Rattle.line.specs.Turns.{label, place, gain_byte, last_heard, Ready, new_value, FirstMade, SideMade, SidesMade, TurnMade};
 
+use basics::MAX_ROWS;
 use labels::permission::may_have;
+use space::{ACROSS, HIGH_1_FROM, HIGH_2_FROM, NEXT_FROM};
 
-// The cells of the working space stand in rows of 65: one for "none" and one for each row.
-const ACROSS: usize = basics::MAX_ROWS + 1;
+pub mod space;
 
-// The bytes of all cells.
-const CELL_BYTES: usize = ACROSS * ACROSS;
+// A receiver. Both are treated alike, each with the other one beside it.
+#[derive(Clone, Copy)]
+enum Receiver {
+    One,
+    Two,
+}
+
+impl Receiver {
+    fn label(self) -> u8
+        ensures { result ≡ label self }
+    {
+        match self {
+            Receiver::One => 1,
+            Receiver::Two => 2,
+        }
+    }
+
+    // The index of the cell where this receiver is free from row a on and the other one from row b on.
+    fn place(self, a: usize, b: usize) -> usize
+        requires { (a ≤ max_rows) × (b ≤ max_rows) }
+        ensures value { result ≡ place self a b }
+        ensures bound { result < cell_bytes }
+    {
+        match self {
+            Receiver::One => a * ACROSS + b,
+            Receiver::Two => b * ACROSS + a,
+        }
+    }
+}
 
 // The value of leaving a row out, where it may be; 0 where it may not. A value is a byte with 0 for none, and no Option, here and below: it is kept in a cell of one byte
 // of the lent working space.
@@ -24,178 +55,221 @@ fn out_value(may: bool, v: u8) -> u8
     if may { v } else { 0 }
 }
 
-// The value of a row that starts at s on a receiver that is busy until e, where it may have that receiver.
-// Three tests, and not one condition: with `may && e <= s && v != 0` the line program took 1.46 times the instructions, as measured.
-#[tactic(auto, using(std::proofs::lemmas::Bool::Decides::nat_tests), unfolding(crate::specs::Line::gain))]
-fn heard_value(may: bool, e: u16, s: u16, v: u8) -> u8
-    requires { v < 255 }
-    ensures { result ≡ when (may && leb e s) (gain v) }
+// The value of hearing a row, where it may be. The sum wraps, so that nothing has to be known of cells that are not made.
+#[tactic(auto, unfolding(crate::specs::Line::gain))]
+fn heard_value(may: bool, v: u8) -> u8
+    ensures { result ≡ when may (gain_byte v) }
 {
     if may {
-        if e <= s {
-            if v == 0 { 0 } else { v + 1 }
-        } else {
-            0
-        }
+        if v == 0 { 0 } else { v.wrapping_add(1) }
     } else {
         0
     }
 }
 
-// The value of a row from those of its three labels.
-#[tactic(auto, unfolding(crate::specs::Line::cell))]
-fn cell_value(p: u8, s: u16, e1: u16, e2: u16, v0: u8, v1: u8, v2: u8) -> u8
-    requires one_fits { v1 < 255 }
-    requires two_fits { v2 < 255 }
-    ensures { result ≡ cell p s e1 e2 v0 v1 v2 }
-{
-    let out = out_value(may_have(p, 0), v0);
-    let one = heard_value(may_have(p, 1), e1, s, v1);
-    let two = heard_value(may_have(p, 2), e2, s, v2);
-    // In this order: with `out.max(one.max(two))` the line program took 1.08 times the instructions, as measured.
-    two.max(one).max(out)
-}
-
-// When the last row a ends; 0 for none. A last row is no `Option`: it is the index of its cells in the working space, 1 for row 0 and 0 for none.
-fn end_at(ends: &[u16], a: usize) -> u16
-    requires { a ≤ length ends.now }
-    ensures { result ≡ end_at ends.now a }
-{
-    if a == 0 { 0 } else { ends[a - 1] }
-}
-
-// A last row as the next row, which starts at next, sees it: none, where it is over by then.
-#[tactic(auto, unfolding(crate::specs::Stage::carry))]
-fn carried(ends: &[u16], next: u16, a: usize) -> usize
-    requires { a ≤ length ends.now }
-    ensures value { result ≡ carry_at ends.now next a }
-    ensures bound { result ≤ a }
-{
-    if end_at(ends, a) <= next { 0 } else { a }
-}
-
-// From m down, the first last row that is not over at the tick start; 0 where there is none above low.
-#[tactic(auto, using(crate::proofs::Turns::live_none, crate::proofs::Turns::live_less, crate::proofs::Turns::live_low))]
-fn live_below(ends: &[u16], start: u16, low: usize, m: usize) -> usize
-    requires within { m ≤ length ends.now }
-    requires over { (i : ℕ) → i < low → at ends.now i ≤ start }
-    ensures { LiveBelow ends.now start m result }
-{
-    for i in (low..m).rev() {
-        if start < ends[i] {
-            return i + 1;
-        }
-    }
-    0
-}
-
-// The turn of row k, which starts at `start`, before a row that starts at `next`: no row before `low` ends after `start`.
+// The turn of row j: its permission, its next row, and the first row after it that may not be left out.
 #[derive(Clone, Copy)]
-struct RowTurn<'a> {
-    ends: &'a [u16],
+struct Turn {
     perm: u8,
-    start: u16,
-    next: u16,
-    k: usize,
-    low: usize,
-    ghost turn: { Turn ends.now start k low },
+    j: usize,
+    next: usize,
+    must: usize,
+    ghost few: { j < max_rows },
+    ghost next_within: { (j < next) × (next ≤ max_rows) },
+    ghost must_within: { must ≤ max_rows },
 }
 
-impl RowTurn<'_> {
-    ghost use Rattle.line.specs.RowTurns.{lives, new_value};
-
-    // Makes the cells new where row a - 1 is the last on receiver 1.
-    fn fill_row(self, a: usize, space: &mut [u8])
-        requires within { a ≤ self.k }
-        requires long { cell_bytes ≤ length space.old }
-        requires small { Small self.ends.now self.next self.k a space.old }
-        ensures { RowMade (lives self.entry) (new_value self.entry space.old) self.entry.k a 0 space.old space.new }
+impl Turn {
+    // The last row from which on the other receiver may be free where the row is heard on this one; 0 where it may not be.
+    #[tactic(auto, using(std::proofs::lemmas::Bool::Decides::nat_tests), unfolding(crate::specs::Turns::last_heard))]
+    fn last_heard(&self, receiver: Receiver) -> u8
+        ensures { result ≡ last_heard receiver self.now.perm self.now.next self.now.must }
     {
-        let ends = self.ends;
-        let ea = end_at(ends, a);
-        let x = carried(ends, self.next, a);
-        let last = carried(ends, self.next, self.k + 1);
-        let two = space[x * ACROSS + last];
-        let mut m = self.k + 1;
-
-        // A `while`: the next b is found by a search, and not counted.
-        while 0 < m {
-            let b = live_below(ends, self.start, self.low, m - 1);
-            let eb = end_at(ends, b);
-            let y = carried(ends, self.next, b);
-            let v = cell_value(
-                self.perm,
-                self.start,
-                ea,
-                eb,
-                space[x * ACROSS + y],
-                space[last * ACROSS + y],
-                two,
-            );
-            space[a * ACROSS + b] = v;
-            m = b;
+        if may_have(self.perm, receiver.label()) {
+            if self.next <= self.must {
+                MAX_ROWS as u8
+            } else {
+                self.must as u8
+            }
+        } else {
+            0
         }
     }
 
-    // Makes the cells new for the turn.
-    fn fill_stage(self, space: &mut [u8])
+    // Makes the cell where this receiver is free from row j on and the other one from a row after the next.
+    fn fill_cell(&self, receiver: Receiver, last: u8, b: usize, space: &mut [u8])
         requires long { cell_bytes ≤ length space.old }
-        requires small { (a : ℕ) → a ≤ self.k → Small self.ends.now self.next self.k a space.old }
-        ensures { StageMade (lives self.entry) (new_value self.entry space.old) self.entry.k 0 space.old space.new }
+        requires b_within { b ≤ max_rows }
+        ensures { space.new ≡ set space.old (place receiver self.now.j b) (new_value receiver self.now.perm self.now.j self.now.next last space.old b) }
     {
-        let mut m = self.k + 1;
+        let out = out_value(may_have(self.perm, 0), space[receiver.place(self.j + 1, b)]);
+        let heard = heard_value(b as u8 <= last, space[receiver.place(self.next, b)]);
+        space[receiver.place(self.j, b)] = heard.max(out);
+    }
 
-        // A `while`, as in fill_row.
-        while 0 < m {
-            let a = live_below(self.ends, self.start, self.low, m - 1);
-            self.fill_row(a, space);
-            m = a;
+    // Makes such cells up to `high`, where they are few: a fixed number of tests, since a loop that makes several cells at once takes longer to set up than so few to make.
+    #[tactic(auto, using(crate::proofs::Turns::side_none, crate::proofs::Turns::side_less))]
+    fn fill_few(&self, receiver: Receiver, last: u8, high: usize, space: &mut [u8])
+        requires long { cell_bytes ≤ length space.old }
+        requires high { (high < self.now.j + 5) × (high ≤ max_rows) }
+        ensures { SideMade receiver self.now.perm self.now.j self.now.next last (high + 1) space.old space.new }
+    {
+        for b in self.j + 2..self.j + 5 {
+            if high < b {
+                return;
+            }
+            self.fill_cell(receiver, last, b, space);
         }
+    }
+
+    // Makes such cells up to `high`. The compiler makes 16 at once for receiver 1. The turn is copied, since its fields would be read anew after each byte that is written: as
+    // measured, 1.3 times as many instructions of both sides where 16 rows meet.
+    #[inline(never)]
+    #[tactic(auto, using(crate::proofs::Turns::side_none, crate::proofs::Turns::side_less))]
+    fn fill_many(&self, receiver: Receiver, last: u8, high: usize, space: &mut [u8])
+        requires long { cell_bytes ≤ length space.old }
+        requires high { high ≤ max_rows }
+        ensures { SideMade receiver self.now.perm self.now.j self.now.next last (high + 1) space.old space.new }
+    {
+        let turn = *self;
+        for b in turn.j + 2..high + 1 {
+            turn.fill_cell(receiver, last, b, space);
+        }
+    }
+
+    // Makes the cells where this receiver is free from row j on, and the other one from a row after the next up to `high`.
+    fn fill_side(&self, receiver: Receiver, high: usize, space: &mut [u8])
+        requires long { cell_bytes ≤ length space.old }
+        requires high { high ≤ max_rows }
+        ensures { SideMade receiver self.now.perm self.now.j self.now.next (last_heard receiver self.now.perm self.now.next self.now.must) (high + 1) space.old space.new }
+    {
+        let last = self.last_heard(receiver);
+        if high < self.j + 5 {
+            self.fill_few(receiver, last, high, space);
+        } else {
+            self.fill_many(receiver, last, high, space);
+        }
+    }
+
+    // Makes them for both receivers. Not inlined, since most turns have none where one or two rows meet: those turns need no `Turn` in memory then.
+    #[inline(never)]
+    fn fill_sides(&self, high_1: usize, high_2: usize, space: &mut [u8])
+        requires long { cell_bytes ≤ length space.old }
+        requires high { (high_1 ≤ max_rows) × (high_2 ≤ max_rows) }
+        ensures { SidesMade self.now.perm self.now.j self.now.next self.now.must high_1 high_2 space.old space.new }
+    {
+        self.fill_side(Receiver::One, high_2, space);
+        self.fill_side(Receiver::Two, high_1, space);
     }
 }
 
-// 0 where the rows of a line cannot all be settled, and one more than the most that can be heard.
-pub fn line_best(starts: &[u16], ends: &[u16], perms: &[u8], space: &mut [u8]) -> u8
-    requires line { Line starts.now ends.now perms.now }
-    requires lows { Lows starts.now ends.now space.old }
-    ensures { (result ≡ best (rows starts.now ends.now perms.now) 0 0) × (drop cell_bytes space.new ≡ drop cell_bytes space.old) }
+// Makes the cells where each receiver is free from row j or the row after it on, and one of them from row j on: the three are made from the same cells. Two of them may be
+// cells that nothing reads, which costs less than to ask.
+fn fill_first(perm: u8, j: usize, next: usize, space: &mut [u8])
+    requires long { cell_bytes ≤ length space.old }
+    requires within { (j < max_rows) × (next ≤ max_rows) }
+    ensures { FirstMade perm j next space.old space.new }
 {
-    space[0] = 1;
-    let mut next = u16::MAX;
-    for k in (0..starts.len()).rev() {
-        let start = starts[k];
-        let low = usize::from(space[CELL_BYTES + k]);
-        let turn = RowTurn {
-            ends,
-            perm: perms[k],
-            start,
+    let i = j + 1;
+    let out = out_value(may_have(perm, 0), space[i * ACROSS + i]);
+    let one = heard_value(may_have(perm, 1), space[next * ACROSS + i]);
+    let two = heard_value(may_have(perm, 2), space[i * ACROSS + next]);
+    let out_one = one.max(out);
+    space[j * ACROSS + j] = two.max(out_one);
+    space[j * ACROSS + i] = out_one;
+    space[i * ACROSS + j] = two.max(out);
+}
+
+// Makes the cells of row j's turn, where `must` is the first row after it that may not be left out.
+fn fill_turn(perm: u8, j: usize, must: usize, space: &mut [u8])
+    requires ready { Ready space.old j }
+    requires must_within { (j < must) × (must ≤ max_rows) }
+    ensures { TurnMade perm j must space.old space.new }
+{
+    let next = usize::from(space[NEXT_FROM + j]);
+    let high_1 = usize::from(space[HIGH_1_FROM + j]);
+    let high_2 = usize::from(space[HIGH_2_FROM + j]);
+    fill_first(perm, j, next, space);
+    if j + 1 < high_1.max(high_2) {
+        let turn = Turn {
+            perm,
+            j,
             next,
-            k,
-            low,
+            must,
         };
-        turn.fill_stage(space);
-        next = start;
+        turn.fill_sides(high_1, high_2, space);
+    }
+}
+
+// The last row from which on a receiver can be free after a row that may have it, or may not, and whose next row is `next`.
+fn high_after(may: bool, high: u8, next: u8) -> u8
+    ensures rising { high ≤ result }
+    ensures bound { result ≤ max high next }
+    ensures next { may ≡ true → next ≤ result }
+{
+    if may { high.max(next) } else { high }
+}
+
+// Writes for each row of the line and each receiver the last row from which on the receiver can be free in the row's turn.
+fn set_highs(perms: &[u8], space: &mut [u8])
+    requires { Numbered perms.now space.old }
+    ensures highs { (x : Receiver) → Highs perms.now space.new (label x) }
+    ensures rest { drop line_bytes space.new ≡ drop line_bytes space.old }
+{
+    let mut high_1: u8 = 0;
+    let mut high_2: u8 = 0;
+    for (j, perm) in perms.iter().enumerate() {
+        let next = space[NEXT_FROM + j];
+        space[HIGH_1_FROM + j] = high_1.max(j as u8);
+        space[HIGH_2_FROM + j] = high_2.max(j as u8);
+        high_1 = high_after(may_have(*perm, 1), high_1, next);
+        high_2 = high_after(may_have(*perm, 2), high_2, next);
+    }
+}
+
+// 0 where the rows of a line cannot all be settled, and one more than the most that can be heard. The rows are known by number: their next rows stand in the working space.
+pub fn line_best(perms: &[u8], space: &mut [u8]) -> u8
+    requires { Numbered perms.now space.old }
+    ensures value { result ≡ best_from (nexts_of space.new (length perms.now)) perms.now 0 0 0 }
+    ensures filled { Filled perms.now space.new }
+    ensures space_unchanged { drop line_bytes space.new ≡ drop line_bytes space.old }
+{
+    set_highs(perms, space);
+    let mut must = perms.len();
+    space[must * ACROSS + must] = 1;
+    for j in (0..perms.len()).rev() {
+        fill_turn(perms[j], j, must, space);
+        if !may_have(perms[j], 0) {
+            must = j;
+        }
     }
     space[0]
 }
 
-// How many rows from the front on end by the tick start, of the first k.
-fn low_of(ends: &[u16], start: u16, k: usize) -> u8
-    requires within { k ≤ length ends.now }
-    requires few { k < max_rows }
-    ensures bound { result ≤ k }
-    ensures over { (i : ℕ) → i < result → at ends.now i ≤ start }
+// The first row after row j that starts when row j, which ends at `end`, is over; how many rows there are where none does. They come in order of their starts.
+fn next_row(starts: &[u16], end: u16, j: usize) -> u8
+    requires within { j < length starts.now }
+    requires few { length starts.now ≤ max_rows }
+    requires order { (i k : ℕ) → i < k → k < length starts.now → at starts.now i ≤ at starts.now k }
+    ensures later { j < result }
+    ensures bound { result ≤ length starts.now }
+    ensures over { (k : ℕ) → j < k → k < length starts.now → (end ≤ at starts.now k) ↔ (result ≤ k) }
 {
-    ends[..k].iter().position(|end| start < *end).unwrap_or(k) as u8
+    let mut next = j + 1;
+    while next < starts.len() && starts[next] < end {
+        next += 1;
+    }
+    next as u8
 }
 
-// Writes for each row the first row that can still matter in its turn after the cells.
-#[tactic(auto, using(crate::proofs::Turns::lows_none, crate::proofs::Turns::lows_done))]
-pub fn set_lows(starts: &[u16], ends: &[u16], space: &mut [u8])
-    requires { (length starts.now ≤ max_rows) × (length ends.now ≡ length starts.now) × (core_bytes ≤ length space.old) }
-    ensures { Lows starts.now ends.now space.new × (drop core_bytes space.new ≡ drop core_bytes space.old) }
+// Writes for each row of a line its next row, the first that starts when it is over.
+pub fn set_nexts(starts: &[u16], ends: &[u16], space: &mut [u8])
+    requires line { LineRows starts.now ends.now }
+    requires long { core_bytes ≤ length space.old }
+    ensures next_rows { NextRows starts.now ends.now space.new }
+    ensures space_unchanged { drop core_bytes space.new ≡ drop core_bytes space.old }
 {
-    for (k, start) in starts.iter().enumerate() {
-        space[CELL_BYTES + k] = low_of(ends, *start, k);
+    for (j, end) in ends.iter().enumerate() {
+        space[NEXT_FROM + j] = next_row(starts, *end, j);
     }
 }

@@ -73,10 +73,10 @@ holder l m x f = go (looked l x m)
 module _ (positions ends qs : List ℕ) (m : ℕ) (crossing : Crossing positions ends m) (l : List ℕ) where
   -- a pair's labels leave every two rows of one receiver clear of each other
   module _ (w1 w2 : ℕ) (F : PairFit positions ends qs m w1 w2 l) where
-    left : (k : ℕ) → k < length positions → (permits (at qs k) (at l k) ≡ true) × (leaves positions ends m w1 w2 k (at l k) ≡ true)
+    pub left : (k : ℕ) → k < length positions → (permits (at qs k) (at l k) ≡ true) × (leaves positions ends m w1 w2 k (at l k) ≡ true)
     left k h = (left_iff positions ends m w1 w2 k (at qs k) (at l k)).0 (F.fit.allowed k h)
 
-    front : (k : ℕ) → k < m → at l k ≢ 0 → k ≡ chosen positions ends m w1 w2 (at l k)
+    pub front : (k : ℕ) → k < m → at l k ≢ 0 → k ≡ chosen positions ends m w1 w2 (at l k)
     front k h n =
         given_chosen positions ends m w1 w2 k (at l k) n
         ((leaves_front positions ends m w1 w2 k (at l k) h).0 (left k (omega (arith, crossing.within))).1)

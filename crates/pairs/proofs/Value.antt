@@ -3,24 +3,26 @@ use Prim.Native.Nat.{ℕ, zero, suc, ◌+◌, ◌-◌, ◌≤◌, ◌<◌}
 use mathlib.Core.Path.{◌≡◌, refl, sym, ap, subst, ◌∙◌}
 use mathlib.Core.Bool.{Bool, true, false, cond}
 use mathlib.Core.List.{List, [], ◌∷◌, ◌++◌}
-use native.Mathlib.Decide.{ℕ_discrete, dec_lt}
+use native.Mathlib.Decide.{dec_lt}
 use native.Mathlib.Omega.{arith}
 use native.Mathlib.Numerals.{add-one}
-use borrow.Author.Tests.{eqb-true, lt-ltb, le-ltb, eq-eqb, ne_eqb}
+use borrow.Author.Tests.{eqb-true}
 use lib.Dec.{eqb}
 use lib.ListN.{length, take, drop, length-append, length-drop, take-append-drop, get_or-append}
 use lib.Seq.{get_or-drop, get_or-append-add, take_all}
 use Rattle.basics.specs.Lists.{at}
 use Rattle.labels.specs.Labels.{hears, heard}
 use Rattle.labels.specs.Permission.{permits}
-use Rattle.labels.proofs.Heard.{heard_nil, heard_append, heard_more, heard_le}
-use Rattle.arcs.specs.Order.{InOrder, Crossing}
-use Rattle.line.specs.Line.{Line, best, rows}
-use Rattle.line.proofs.Optimum.{Settled, line_sound, line_complete}
-use Rattle.arcs.proofs.Sorting.{key_other}
-use Rattle.pairs.specs.Capped.{Most}
+use Rattle.labels.proofs.Heard.{heard_nil, heard_append, heard_more}
+use Rattle.arcs.specs.Order.{Crossing}
+use Rattle.line.specs.Line.{LineRows, Settled, best_from}
+use Rattle.line.specs.Filled.{NextRows, nexts_of}
+use Rattle.line.proofs.Optimum.{line_sound, line_complete}
+use Rattle.pairs.specs.Ready.{Most}
 use Rattle.pairs.specs.Pairs.{pair_label, left_of, PairFit, LeftAll, one, with_pair}
 use Rattle.pairs.proofs.Leaves.{left_iff, leaves_front, left_given}
+use Rattle.pairs.proofs.Bounds.{one_more, one_none}
+use Rattle.pairs.proofs.Numbers.{line_numbers, settled_iff}
 
 -- a list of m entries by a rule
 listed : (f : ℕ → ℕ) (m : ℕ) → (l : List ℕ) × (length l ≡ m) × ((k : ℕ) → k < m → at l k ≡ f k)
@@ -34,15 +36,6 @@ listed f (suc m) =
     entry l g (suc k) h = g k (omega arith)
 
 -- ---- how many of the crossing rows are heard
-
-one_more : (i w : ℕ) → one (i + 1) w ≡ one i w + cond (eqb i w) 1 0
-one_more i w = go (dec_lt w i) (ℕ_discrete i w)
-  where
-    go : Dec (w < i) → Dec (i ≡ w) → one (i + 1) w ≡ one i w + cond (eqb i w) 1 0
-    go (yes a) (yes e) = absurd (omega arith)
-    go (yes a) (no e) = rw (lt-ltb w i a, lt-ltb w (i + 1) (omega arith), ne_eqb i w e)
-    go (no a) (yes e) = rw (le-ltb w i (omega arith), lt-ltb w (i + 1) (omega arith), eq-eqb i w e)
-    go (no a) (no e) = rw (le-ltb w i (omega arith), le-ltb w (i + 1) (omega arith), ne_eqb i w e)
 
 module _ (positions ends : List ℕ) (m w1 w2 : ℕ) (distinct : w1 ≡ w2 → m ≤ w1) where
   hears_given : (i : ℕ) → i < m → hears (pair_label positions ends m w1 w2 i) ≡ cond (eqb i w1) 1 0 + cond (eqb i w2) 1 0
@@ -59,10 +52,7 @@ module _ (positions ends : List ℕ) (m w1 w2 : ℕ) (distinct : w1 ≡ w2 → m
   heard_front l b f = go m (omega arith)
     where
       go : (i : ℕ) → i ≤ m → heard (take i l) ≡ one i w1 + one i w2
-      go zero h = heard_nil ∙ none w1 w2
-        where
-          none : (v w : ℕ) → 0 ≡ one 0 v + one 0 w
-          none v w = rw (le-ltb v 0 (omega arith), le-ltb w 0 (omega arith))
+      go zero h = omega (arith, heard_nil, one_none w1, one_none w2)
       go (suc i) h =
           subst (λ (n : ℕ). heard (take n l) ≡ one n w1 + one n w2) (add-one i)
           (omega (
@@ -77,32 +67,13 @@ module _ (positions ends : List ℕ) (m w1 w2 : ℕ) (distinct : w1 ≡ w2 → m
 
 -- ---- the rows that do not cross, as a line
 
-behind : (m : ℕ) (l : List ℕ) (k : ℕ) → m ≤ k → at (drop m l) (k - m) ≡ at l k
+pub behind : (m : ℕ) (l : List ℕ) (k : ℕ) → m ≤ k → at (drop m l) (k - m) ≡ at l k
 behind m l k h = get_or-drop m l (k - m) 0 ∙ ap (at l) (omega arith)
 
-module _ (positions ends perms left : List ℕ) (m w1 w2 : ℕ) (each_end : length ends ≡ length positions) (Each-left : length left ≡ length positions)
+module _ (positions ends perms left : List ℕ) (m w1 w2 : ℕ) (each_left : length left ≡ length positions)
     (crossing : Crossing positions ends m) (L : LeftAll positions ends perms m w1 w2 (length positions) left) where
-  pub line : length positions ≤ 64 → InOrder positions ends → Line (drop m positions) (drop m ends) (drop m left)
-  line few ordered =
-      record {
-        few = omega (arith, length-drop m positions);
-        each_end = simp length-drop (omega arith);
-        each_perm = simp length-drop (omega arith);
-        order = λ i j h k. simp get_or-drop (rises (m + i) (m + j) (omega arith) (omega arith) (omega (arith, length-drop m positions)));
-        proper = λ i h. simp get_or-drop (crossing.rest (m + i) (omega arith) (omega (arith, length-drop m positions)));
-      }
-    where
-      rises : (i j : ℕ) → m ≤ i → i ≤ j → j < length positions → at positions i ≤ at positions j
-      rises i j a b h =
-          omega (
-            arith,
-            ordered i j b h,
-            key_other (at positions i) (at ends i) (crossing.rest i a (omega arith)),
-            key_other (at positions j) (at ends j) (crossing.rest j (omega arith) h),
-          )
-
   -- labels that the pair fits settle the line
-  settled : (l : List ℕ) → PairFit positions ends perms m w1 w2 l → Settled (drop m positions) (drop m ends) (drop m left) (drop m l)
+  pub settled : (l : List ℕ) → PairFit positions ends perms m w1 w2 l → Settled (drop m positions) (drop m ends) (drop m left) (drop m l)
   settled l F =
       record {
         each = simp length-drop (omega (arith, F.fit.each));
@@ -114,6 +85,20 @@ module _ (positions ends perms left : List ℕ) (m w1 w2 : ℕ) (each_end : leng
     where
       inside : (i : ℕ) → i < length (drop m positions) → m + i < length positions
       inside i h = omega (arith, length-drop m positions)
+
+  -- they hear the pair's rows, and those of the line
+  pub heard_pair : (l : List ℕ) → PairFit positions ends perms m w1 w2 l → heard l ≡ one m w1 + one m w2 + heard (drop m l)
+  heard_pair l F =
+      omega (
+        arith,
+        heard_append (take m l) (drop m l),
+        ap heard (take-append-drop m l),
+        heard_front positions ends m w1 w2 F.distinct l (omega (arith, F.fit.each, crossing.within)) gives,
+      )
+    where
+      gives : (k : ℕ) → k < m → at l k ≡ pair_label positions ends m w1 w2 k
+      gives k h =
+          sym ((leaves_front positions ends m w1 w2 k (at l k) h).0 ((left_iff positions ends m w1 w2 k (at perms k) (at l k)).0 (F.fit.allowed k (omega (arith, crossing.within)))).1)
 
   -- and labels that settle the line, behind the labels that the pair gives, are labels that it fits
   fitted : (w1 ≡ w2 → m ≤ w1) → (f t : List ℕ) → length f ≡ m → ((k : ℕ) → k < m → at f k ≡ pair_label positions ends m w1 w2 k)
@@ -145,52 +130,38 @@ module _ (positions ends perms left : List ℕ) (m w1 w2 : ℕ) (each_end : leng
           rw (later k (omega arith), ← L.each k h, ← behind m left k (omega arith)) (S.allowed (k - m) (inside k (omega arith) h))
 
   -- the value of the pair, from the best of the line
-  module _ (distinct : w1 ≡ w2 → m ≤ w1) (few : length positions ≤ 64) (ordered : InOrder positions ends) where
-    on_line : Line (drop m positions) (drop m ends) (drop m left)
-    on_line = line few ordered
+  module _ (distinct : w1 ≡ w2 → m ≤ w1) (rows : LineRows (drop m positions) (drop m ends)) {space : List ℕ} (N : NextRows (drop m positions) (drop m ends) space) where
+    each : length (drop m left) ≡ length (drop m positions)
+    each = simp length-drop (omega arith)
 
-    reached : (c : ℕ) → best (rows (drop m positions) (drop m ends) (drop m left)) 0 0 ≡ suc c
-        → (l : List ℕ) × PairFit positions ends perms m w1 w2 l × (suc (heard l) ≡ suc c + one m w1 + one m w2)
+    line_value : ℕ
+    line_value = best_from (nexts_of space (length (drop m left))) (drop m left) 0 0 0
+
+    reached : (c : ℕ) → line_value ≡ suc c → (l : List ℕ) × PairFit positions ends perms m w1 w2 l × (suc (heard l) ≡ suc c + one m w1 + one m w2)
+    unfolding line_value
     reached c e =
         let f = listed (pair_label positions ends m w1 w2) m in
-        let t = line_sound _ _ _ on_line c e in
-        (f.0 ++ t.0, fitted distinct f.0 t.0 f.1 f.2 t.1, count f.0 t.0 f.1 f.2 t.2)
+        let t = line_sound _ _ _ (line_numbers rows N (drop m left) each) c e in
+        (f.0 ++ t.0, fitted distinct f.0 t.0 f.1 f.2 ((settled_iff rows N (drop m left) each t.0).0 t.1), count f.0 t.0 f.1 f.2 t.2)
       where
         count : (f t : List ℕ) → length f ≡ m → ((k : ℕ) → k < m → at f k ≡ pair_label positions ends m w1 w2 k) → heard t ≡ c → suc (heard (f ++ t)) ≡ suc c + one m w1 + one m w2
         count f t long gives h =
             omega (arith, heard_append f t, ap heard (take_all m f (omega arith)), heard_front positions ends m w1 w2 distinct f (omega arith) gives)
 
-    bound : (l : List ℕ) → PairFit positions ends perms m w1 w2 l → (v : ℕ) → best (rows (drop m positions) (drop m ends) (drop m left)) 0 0 ≡ v → suc (heard l) ≤ with_pair m w1 w2 v
-    unfolding with_pair
-    bound l F zero e = absurd (omega (arith, line_complete _ _ _ on_line (drop m l) (settled l F)))
-    bound l F (suc c) e =
-        omega (
-          arith,
-          line_complete _ _ _ on_line (drop m l) (settled l F),
-          heard_append (take m l) (drop m l),
-          ap heard (take-append-drop m l),
-          heard_front positions ends m w1 w2 distinct l (omega (arith, F.fit.each, crossing.within)) gives,
-        )
-      where
-        gives : (k : ℕ) → k < m → at l k ≡ pair_label positions ends m w1 w2 k
-        gives k h =
-            sym ((leaves_front positions ends m w1 w2 k (at l k) h).0 ((left_iff positions ends m w1 w2 k (at perms k) (at l k)).0 (F.fit.allowed k (omega (arith, crossing.within)))).1)
+    complete : (l : List ℕ) → PairFit positions ends perms m w1 w2 l → suc (heard (drop m l)) ≤ line_value
+    unfolding line_value
+    complete l F =
+        line_complete _ _ _ (line_numbers rows N (drop m left) each) (drop m l) ((settled_iff rows N (drop m left) each (drop m l)).1 (settled l F))
 
-    pub pair_most : (v : ℕ) → best (rows (drop m positions) (drop m ends) (drop m left)) 0 0 ≡ v → Most (PairFit positions ends perms m w1 w2) (with_pair m w1 w2 v)
+    bound : (l : List ℕ) → PairFit positions ends perms m w1 w2 l → (v : ℕ) → line_value ≡ v → suc (heard l) ≤ with_pair m w1 w2 v
     unfolding with_pair
-    pair_most v e = record { reached = found v e; bound = λ l F. bound l F v e }
+    bound l F zero e = absurd (omega (arith, complete l F))
+    bound l F (suc c) e = omega (arith, complete l F, heard_pair l F)
+
+    pub pair_most : (v : ℕ) → v ≡ best_from (nexts_of space (length (drop m left))) (drop m left) 0 0 0 → Most (PairFit positions ends perms m w1 w2) (with_pair m w1 w2 v)
+    unfolding with_pair line_value
+    pair_most v e = record { reached = found v (sym e); bound = λ l F. bound l F v (sym e) }
       where
-        found : (u : ℕ) → best (rows (drop m positions) (drop m ends) (drop m left)) 0 0 ≡ u → 0 < with_pair m w1 w2 u
-            → (l : List ℕ) × PairFit positions ends perms m w1 w2 l × (suc (heard l) ≡ with_pair m w1 w2 u)
+        found : (u : ℕ) → line_value ≡ u → 0 < with_pair m w1 w2 u → (l : List ℕ) × PairFit positions ends perms m w1 w2 l × (suc (heard l) ≡ with_pair m w1 w2 u)
         found zero q h = absurd (omega arith)
         found (suc c) q h = reached c q
-
--- the best of a line of at most 64 rows is at most 65
-pub best_le : (ss es ps : List ℕ) → Line ss es ps → best (rows ss es ps) 0 0 ≤ 65
-best_le ss es ps line = go (best (rows ss es ps) 0 0) refl
-  where
-    go : (v : ℕ) → best (rows ss es ps) 0 0 ≡ v → v ≤ 65
-    go zero e = omega arith
-    go (suc c) e =
-        let t = line_sound ss es ps line c e in
-        omega (arith, heard_le t.0, t.1.each, t.2, line.few)

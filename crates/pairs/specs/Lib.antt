@@ -1,3 +1,6 @@
 -- What the contracts of the crate `pairs` cite.
 pub mod Pairs
-pub mod Capped
+pub mod Ready
+pub mod Bounds
+pub mod Found
+pub mod Finding

@@ -58,9 +58,9 @@ pub record LeftAll (positions ends perms : List ℕ) (m w1 w2 n : ℕ) (left : L
   pub each : (k : ℕ) → k < n → at left k ≡ left_of positions ends m w1 w2 k (at perms k)
   pub some : (k : ℕ) → k < n → 0 < left_of positions ends m w1 w2 k (at perms k)
 
--- the answer of `leave`: false where the pair leaves some row no label
-pub record Leaving (positions ends perms : List ℕ) (m w1 w2 : ℕ) (left : List ℕ) (r : Bool) : Type 0 where
-  pub all : r ≡ true → LeftAll positions ends perms m w1 w2 (length positions) left
+-- the answer of `leave` for the first n rows: false where the pair leaves some row no label
+pub record Leaving (positions ends perms : List ℕ) (m w1 w2 n : ℕ) (left : List ℕ) (r : Bool) : Type 0 where
+  pub all : r ≡ true → LeftAll positions ends perms m w1 w2 n left
   pub none : r ≡ false → (k : ℕ) × (k < length positions) × (left_of positions ends m w1 w2 k (at perms k) ≡ 0)
 
 -- the pair has one crossing row twice

@@ -1,13 +1,16 @@
 // Pairs of crossing rows: how many rows of a circle two receivers can hear.
 #![tactic(auto)]
 
-ghost use Rattle.std.specs.Prelude.{◌≡◌, cond, ◌≤◌, ◌<◌, eqb, length, drop};
-ghost use Rattle.line.specs.Line.{Line, best, rows};
-ghost use Rattle.line.specs.Cells.{Lows, cell_bytes};
-ghost use Rattle.pairs.specs.Pairs.{gathered, Cleared, beside, left_of, PairFit, Leaving, twice, one, with_pair};
-ghost use Rattle.pairs.specs.Capped.{Capped, Rows, Ready};
+mod found;
 
-use labels::permission::restricted;
+ghost use Rattle.std.specs.Prelude.{◌≡◌, ℕ, cond, ◌≤◌, ◌<◌, eqb, length, drop};
+ghost use Rattle.line.specs.Cells.{line_bytes, found_from, core_bytes, worth_at};
+ghost use Rattle.pairs.specs.Pairs.{gathered, Cleared, beside, LeftAll, Leaving, twice, one, with_pair};
+ghost use Rattle.pairs.specs.Ready.{Most, Rows, Ready};
+ghost use Rattle.pairs.specs.Bounds.{hearable, WithRow, Worth, bound_of, PairValue};
+
+use labels::permission::{may_have, restricted, restricted_to};
+use line::space::WORTH_FROM;
 
 // Rows in order, the first m of which cross the cut: where each begins and ends, and the row of the table at each place.
 #[derive(Clone, Copy)]
@@ -37,7 +40,8 @@ fn one_heard(m: usize, w: usize) -> u8
 impl Pair {
     // The label that the pair gives a crossing row.
     fn given_label(self, k: usize) -> u8
-        ensures { result ≡ cond (eqb k self.w1) 1 (cond (eqb k self.w2) 2 0) }
+        ensures value { result ≡ cond (eqb k self.w1) 1 (cond (eqb k self.w2) 2 0) }
+        ensures label { result ≤ 2 }
     {
         if k == self.w1 {
             1
@@ -66,6 +70,45 @@ impl Pair {
         }
         v + one_heard(m, self.w1) + one_heard(m, self.w2)
     }
+
+    // What no labels of the pair pass, from what each receiver could hear alone with its crossing row; 0 where there are none.
+    fn bound(self, m: usize, one: u8, two: u8) -> u8
+        requires { (one ≤ 66) × (two ≤ 66) }
+        ensures { result ≡ bound_of m self.w1 self.w2 one two }
+    {
+        if one == 0 || two == 0 || self.is_twice(m) {
+            0
+        } else {
+            one + two - 1
+        }
+    }
+}
+
+// What one receiver could hear of the first rows: one more than how many rows, and the end of the last of them, as early as it can be.
+#[derive(Clone, Copy)]
+struct Schedule {
+    count: u8,
+    end: u16,
+}
+
+impl Schedule {
+    // With one row more: if it overlaps the last one, then in place of it where it ends first.
+    fn with_row(self, start: u16, end: u16) -> Schedule
+        requires { self.count < 255 }
+        ensures { WithRow self.count self.end start end result.count result.end }
+    {
+        if self.end <= start {
+            Schedule {
+                count: self.count + 1,
+                end,
+            }
+        } else {
+            Schedule {
+                count: self.count,
+                end: self.end.min(end),
+            }
+        }
+    }
 }
 
 impl<'a> OrderedRows<'a> {
@@ -77,28 +120,14 @@ impl<'a> OrderedRows<'a> {
         self.m <= w || (self.ends[w] <= self.positions[k] && self.ends[k] <= self.positions[w])
     }
 
-    // What the pair leaves of the permission q of row k.
-    fn left_of(self, pair: Pair, k: usize, q: u8) -> u8
-        requires { k < length self.positions.now }
-        ensures { result ≡ left_of self.entry.positions.now self.entry.ends.now self.entry.m pair.w1 pair.w2 k q }
+    // What the pair leaves of the crossing rows' permissions; false at once where it leaves one no label.
+    fn leave_crossing(self, perms: &[u8], pair: Pair, left: &mut [u8]) -> bool
+        requires rows { Rows self.positions.now self.ends.now self.order.now perms.now self.m }
+        requires each_left { length left.old ≡ length self.positions.now }
+        ensures { Leaving self.entry.positions.now self.entry.ends.now (gathered self.entry.order.now perms.now) self.entry.m pair.w1 pair.w2 self.entry.m left.new result }
     {
-        if k < self.m {
-            let label = pair.given_label(k);
-            return restricted(q, label == 0, label == 1, label == 2);
-        }
-        let one = self.is_beside(pair.w1, k);
-        let two = self.is_beside(pair.w2, k);
-        restricted(q, true, one, two)
-    }
-
-    // What the pair leaves of each permission; false at once where it leaves a row no label. Crossing rows come first: most pairs that cannot be fail there.
-    fn leave(self, perms: &[u8], pair: Pair, left: &mut [u8]) -> bool
-        requires { Rows self.positions.now self.ends.now self.order.now perms.now self.m left.old }
-        ensures { Leaving self.entry.positions.now self.entry.ends.now (gathered self.entry.order.now perms.now) self.entry.m pair.w1 pair.w2 left.new result }
-    {
-        for k in 0..self.positions.len() {
-            let row = usize::from(self.order[k]);
-            let kept = self.left_of(pair, k, perms[row]);
+        for k in 0..self.m {
+            let kept = restricted_to(perms[usize::from(self.order[k])], pair.given_label(k));
             if kept == 0 {
                 return false;
             }
@@ -107,21 +136,42 @@ impl<'a> OrderedRows<'a> {
         true
     }
 
-    // The value of the line of the rows that do not cross.
-    fn rest_best(self, left: &[u8], space: &mut [u8]) -> u8
-        requires each_left { length left.now ≡ length self.positions.now }
-        requires line { Line (drop self.m self.positions.now) (drop self.m self.ends.now) (drop self.m left.now) }
-        requires lows { Lows (drop self.m self.positions.now) (drop self.m self.ends.now) space.old }
-        ensures { (result ≡ best (rows (drop self.entry.m self.entry.positions.now) (drop self.entry.m self.entry.ends.now) (drop self.entry.m left.now)) 0 0) × (drop cell_bytes space.new ≡ drop cell_bytes space.old) }
+    // The same of the other rows' permissions, after that of the crossing rows'.
+    fn leave_line(self, perms: &[u8], pair: Pair, left: &mut [u8]) -> bool
+        requires rows { Rows self.positions.now self.ends.now self.order.now perms.now self.m }
+        requires each_left { length left.old ≡ length self.positions.now }
+        requires crossing { LeftAll self.positions.now self.ends.now (gathered self.order.now perms.now) self.m pair.w1 pair.w2 self.m left.old }
+        ensures { Leaving self.entry.positions.now self.entry.ends.now (gathered self.entry.order.now perms.now) self.entry.m pair.w1 pair.w2 (length self.entry.positions.now) left.new result }
     {
-        let m = self.m;
-        line::line_best(&self.positions[m..], &self.ends[m..], &left[m..], space)
+        for k in self.m..self.positions.len() {
+            let one = self.is_beside(pair.w1, k);
+            let two = self.is_beside(pair.w2, k);
+            let kept = restricted(perms[usize::from(self.order[k])], true, one, two);
+            if kept == 0 {
+                return false;
+            }
+            left[k] = kept;
+        }
+        true
     }
 
-    // The most that labels of the pair hear, and one more, as far as the cap; 0 where there are none: a cell of the line's working space has one byte for either.
-    fn pair_best(self, perms: &[u8], pair: Pair, cap: u8, left: &mut [u8], space: &mut [u8]) -> u8
-        requires { Ready self.positions.now self.ends.now self.order.now perms.now self.m cap left.old space.old }
-        ensures { Capped cap (PairFit self.entry.positions.now self.entry.ends.now (gathered self.entry.order.now perms.now) self.entry.m pair.w1 pair.w2) result × (drop cell_bytes space.new ≡ drop cell_bytes space.old) }
+    // What the pair leaves of each permission; false at once where it leaves a row no label. Crossing rows come first: most pairs that cannot be fail there.
+    fn leave(self, perms: &[u8], pair: Pair, left: &mut [u8]) -> bool
+        requires rows { Rows self.positions.now self.ends.now self.order.now perms.now self.m }
+        requires each_left { length left.old ≡ length self.positions.now }
+        ensures { Leaving self.entry.positions.now self.entry.ends.now (gathered self.entry.order.now perms.now) self.entry.m pair.w1 pair.w2 (length self.entry.positions.now) left.new result }
+    {
+        if !self.leave_crossing(perms, pair, left) {
+            return false;
+        }
+        self.leave_line(perms, pair, left)
+    }
+
+    // The most that labels of the pair hear, and one more; 0 where there are none: a cell of the line's working space has one byte for either.
+    fn pair_best(self, perms: &[u8], pair: Pair, left: &mut [u8], space: &mut [u8]) -> u8
+        requires { Ready self.positions.now self.ends.now self.order.now perms.now self.m left.old space.old }
+        ensures value { PairValue self.entry.positions.now self.entry.ends.now (gathered self.entry.order.now perms.now) self.entry.m pair.w1 pair.w2 left.new space.new result }
+        ensures space_unchanged { drop line_bytes space.new ≡ drop line_bytes space.old }
     {
         if pair.is_twice(self.m) {
             return 0;
@@ -129,25 +179,71 @@ impl<'a> OrderedRows<'a> {
         if !self.leave(perms, pair, left) {
             return 0;
         }
-        let rest = self.rest_best(left, space);
-        pair.value(self.m, rest).min(cap)
+        let rest = line::line_best(&left[self.m..], space);
+        pair.value(self.m, rest)
     }
 
-    // The most that labels hear which obey every permission and leave no two meeting arcs on one receiver, and one more, as far as the cap; 0 where there are none.
-    // A pair of no rows most often reaches the cap, which ends the search, so it is tried first.
-    // The lists that are written stay parameters; a struct was tried: of a struct of `&mut` lists each contract would also have to say that it lends the same lists as before, and as long ones.
-    pub fn capped_best(self, perms: &[u8], cap: u8, left: &mut [u8], space: &mut [u8]) -> u8
-        requires { Ready self.positions.now self.ends.now self.order.now perms.now self.m cap left.old space.old }
-        ensures { Capped cap (Cleared self.entry.positions.now self.entry.ends.now (gathered self.entry.order.now perms.now)) result × (drop cell_bytes space.new ≡ drop cell_bytes space.old) }
+    // Whether row k of those that do not cross may be heard by the receiver with w.
+    fn may_hear(self, perms: &[u8], label: u8, w: usize, k: usize) -> bool
+        requires rows { Rows self.positions.now self.ends.now self.order.now perms.now self.m }
+        requires k_in_bounds { k < length self.positions.now }
+        ensures { result ≡ hearable self.entry.positions.now self.entry.ends.now (gathered self.entry.order.now perms.now) self.entry.m label w k }
     {
+        may_have(perms[usize::from(self.order[k])], label) && self.is_beside(w, k)
+    }
+
+    // One more than what the receiver could hear alone with the crossing row w, or with none, whatever the other one does; 0 where w may not have it. The rows come in order of
+    // their starts, so of those that cannot all be heard the one that ends first is kept.
+    fn worth(self, perms: &[u8], label: u8, w: usize) -> u8
+        requires rows { Rows self.positions.now self.ends.now self.order.now perms.now self.m }
+        requires w_within { w ≤ self.m }
+        ensures worth { Worth self.entry.positions.now self.entry.ends.now (gathered self.entry.order.now perms.now) self.entry.m label w result }
+        ensures small { result ≤ 66 }
+    {
+        if w < self.m && !may_have(perms[usize::from(self.order[w])], label) {
+            return 0;
+        }
+        let mut schedule = Schedule {
+            count: 1 + one_heard(self.m, w),
+            end: 0,
+        };
+        for k in self.m..self.positions.len() {
+            if self.may_hear(perms, label, w, k) {
+                schedule = schedule.with_row(self.positions[k], self.ends[k]);
+            }
+        }
+        schedule.count
+    }
+
+    // Writes what receiver 2 could hear with each crossing row, and with none.
+    fn set_worths(self, perms: &[u8], space: &mut [u8])
+        requires rows { Rows self.positions.now self.ends.now self.order.now perms.now self.m }
+        requires long { core_bytes ≤ length space.old }
+        ensures worths { (w : ℕ) → w ≤ self.entry.m → Worth self.entry.positions.now self.entry.ends.now (gathered self.entry.order.now perms.now) self.entry.m 2 w (worth_at space.new w) }
+        ensures small { (w : ℕ) → w ≤ self.entry.m → worth_at space.new w ≤ 66 }
+        ensures space_unchanged { drop found_from space.new ≡ drop found_from space.old }
+    {
+        for w in 0..self.m + 1 {
+            space[WORTH_FROM + w] = self.worth(perms, 2, w);
+        }
+    }
+
+    // The most that labels hear which obey every permission and leave no two meeting arcs on one receiver, and one more; 0 where there are none. A pair whose bound is not over the best so far is passed over.
+    // The lists that are written stay parameters; a struct was tried: of a struct of `&mut` lists each contract would also have to say that it lends the same lists as before, and as long ones.
+    pub fn best(self, perms: &[u8], left: &mut [u8], space: &mut [u8]) -> u8
+        requires { Ready self.positions.now self.ends.now self.order.now perms.now self.m left.old space.old }
+        ensures most { Most (Cleared self.entry.positions.now self.entry.ends.now (gathered self.entry.order.now perms.now)) result }
+        ensures space_unchanged { drop found_from space.new ≡ drop found_from space.old }
+    {
+        self.set_worths(perms, space);
         let mut best: u8 = 0;
         for w1 in (0..self.m + 1).rev() {
+            let one = self.worth(perms, 1, w1);
             for w2 in (0..self.m + 1).rev() {
-                let value = self.pair_best(perms, Pair { w1, w2 }, cap, left, space);
-                if cap <= value {
-                    return cap;
+                let pair = Pair { w1, w2 };
+                if best < pair.bound(self.m, one, space[WORTH_FROM + w2]) {
+                    best = best.max(self.pair_best(perms, pair, left, space));
                 }
-                best = best.max(value);
             }
         }
         best

@@ -1,8 +1,8 @@
--- Laws of the best two-track assignment: classes that hear alike, rows in another order, narrowing.
-pub mod Alike
+-- Laws of the best two-track assignment: rows in another order, narrowing.
 pub mod Exchange
 pub mod Arranged
-pub mod Narrowing
-pub mod Trying
-pub mod Progress
+pub mod Rows
+pub mod Firsts
+pub mod Narrowed
+pub mod Turns
 pub mod Answer

@@ -1,43 +1,101 @@
--- Inner: Narrowing: row after row is left one label alone, the first of 1, 2, 0 with which the most can still be heard.
-use Rattle.std.specs.Prelude.{◌≡◌, ◌⊎◌, Bool, true, false, List, ℕ, suc, ◌≤◌, ◌<◌, length, set}
+-- Inner: Narrowing: row after row of the table is left one label, the first of 1, 2, 0 with which the most can still be heard. What is known of the permissions on the way.
+use Rattle.std.specs.Prelude.{◌≡◌, ◌⊎◌, Bool, true, false, cond, List, ℕ, suc, ◌≤◌, ◌<◌, length}
 use Rattle.basics.specs.Lists.{at}
-use Rattle.labels.specs.Labels.{place}
-use Rattle.labels.specs.Permission.{permits, only}
+use Rattle.labels.specs.Labels.{heard, place, Earlier}
+use Rattle.labels.specs.Permission.{permits, only, label_of}
+use Rattle.line.specs.Cells.{found_at}
 use Rattle.pairs.specs.Pairs.{gathered, Cleared}
-use Rattle.pairs.specs.Capped.{Capped, Ready}
+use Rattle.pairs.specs.Ready.{Ready}
 
--- the assignments of rows in order, under the permissions of the rows as they came
-abbrev pub Ordered : List ℕ → List ℕ → List ℕ → List ℕ → List ℕ → Type 0
-Ordered positions ends order perms = Cleared positions ends (gathered order perms)
+-- the assignments of the rows of a table, of which place k in order has row `order k`, under their permissions
+pub record Ordered (positions ends order perms labels : List ℕ) : Type 0 where
+  pub each : length labels ≡ length positions
+  pub cleared : Cleared positions ends (gathered order perms) (gathered order labels)
 
--- A family of classes gives the label lists under any permissions; row i, of permission p, is to be narrowed.
-module _ (A : List ℕ → List ℕ → Type 0) (cap : ℕ) (perms : List ℕ) (i p : ℕ) where
-  -- row i cannot have the label x: it is not permitted, or the best with x alone falls short of the cap
-  abbrev pub CannotHave : ℕ → Type 0
-  CannotHave x = (permits p x ≡ false) ⊎ ((r : ℕ) × Capped cap (A (set perms i (only x))) r × (r < cap))
+-- `order` has each of n rows once: every row has a place, labels of the places are those of some labels of the rows, and they hear as many
+pub record Permuted (n : ℕ) (order : List ℕ) : Type 0 where
+  pub place : (r : ℕ) → r < n → (k : ℕ) × (k < n) × (at order k ≡ r)
+  pub labels : (l : List ℕ) → length l ≡ n → (t : List ℕ) × (length t ≡ n) × (gathered order t ≡ l)
+  pub heard_same : (l : List ℕ) → length l ≡ n → heard (gathered order l) ≡ heard l
 
-  -- row i can have the label x: no later label is permitted, or x is, and the best with x alone reaches the cap
-  abbrev pub CanHave : ℕ → Type 0
-  CanHave x = ((y : ℕ) → place x < place y → permits p y ≡ false) ⊎ ((permits p x ≡ true) × Capped cap (A (set perms i (only x))) cap)
+-- ---- A gives the assignments under permissions
 
-  -- the label x is the first of 1, 2, 0 that row i can have
-  pub record Chosen (x : ℕ) : Type 0 where
-    pub label : x ≤ 2
-    pub earlier : (y : ℕ) → place y < place x → CannotHave y
-    pub can : CanHave x
+-- some assignment reaches the cap
+abbrev pub Reached : (List ℕ → List ℕ → Type 0) → ℕ → List ℕ → Type 0
+Reached A cap perms = (l : List ℕ) × A perms l × (suc (heard l) ≡ cap)
 
--- rows 0 to i - 1 have been narrowed, one after the other
-pub data Narrowed (A : List ℕ → List ℕ → Type 0) (cap : ℕ) (perms : List ℕ) : ℕ → List ℕ → Type 0 where
-  none : Narrowed A cap perms 0 perms
-  more : {i : ℕ} {perms' : List ℕ} {x : ℕ} → Narrowed A cap perms i perms' → i < length perms' → Chosen A cap perms' i (at perms' i) x → Narrowed A cap perms (suc i) (set perms' i (only x))
+-- row j has one label
+abbrev pub OneAt : List ℕ → ℕ → Type 0
+OneAt perms j = at perms j ≡ only (label_of (at perms j))
 
--- What trying the label x for row i leaves: where it is taken, the row has it alone; else the row's permission is open, the others are as they were.
-pub record Tried (A : List ℕ → List ℕ → Type 0) (cap : ℕ) (perms : List ℕ) (i p x : ℕ) (perms' : List ℕ) (taken : Bool) : Type 0 where
-  pub others : (q : ℕ) → set perms' i q ≡ set perms i q
-  pub yes : taken ≡ true → (perms' ≡ set perms i (only x)) × CanHave A cap perms i p x
-  pub no : taken ≡ false → CannotHave A cap perms i p x
+-- the rows below i have one label each
+abbrev pub OneBelow : List ℕ → ℕ → Type 0
+OneBelow perms i = (j : ℕ) → j < i → OneAt perms j
 
--- what narrowing is lent: what the oracle is, and a row of the table
+-- From the permissions `perms₀` to `perms`: no assignment is new, each that reaches the cap is still there or one that comes earlier is, and the rows below i have one label each.
+pub record Narrowed (A : List ℕ → List ℕ → Type 0) (cap : ℕ) (perms₀ perms : List ℕ) (i : ℕ) : Type 0 where
+  pub each : length perms ≡ length perms₀
+  pub within : (l : List ℕ) → A perms l → A perms₀ l
+  pub covered : (l : List ℕ) → A perms₀ l → suc (heard l) ≡ cap → (k : List ℕ) × A perms k × (suc (heard k) ≡ cap) × ((k ≡ l) ⊎ Earlier k l)
+  pub one : OneBelow perms i
+
+-- The labels found are taken for the permissions: each that a row has in some assignment that reaches the cap, and none that was not permitted.
+pub record Taken (A : List ℕ → List ℕ → Type 0) (cap : ℕ) (perms perms' : List ℕ) : Type 0 where
+  pub each : length perms' ≡ length perms
+  pub reached : Reached A cap perms
+  pub labels : (l : List ℕ) → A perms l → suc (heard l) ≡ cap → (r : ℕ) → r < length perms → permits (at perms' r) (at l r) ≡ true
+  pub permitted : (r x : ℕ) → r < length perms → permits (at perms' r) x ≡ true → permits (at perms r) x ≡ true
+  pub small : (r : ℕ) → r < length perms → at perms' r < 8
+
+-- the permissions stand where labels found do
+abbrev pub Kept : List ℕ → List ℕ → Type 0
+Kept perms space = (r : ℕ) → r < length perms → found_at space r ≡ at perms r
+
+-- The outcome of `take_found`: whether the cap is reached. If it is, the labels found are taken; else the permissions that were kept are.
+pub record Outcome (A : List ℕ → List ℕ → Type 0) (cap : ℕ) (perms perms' space : List ℕ) (r : Bool) : Type 0 where
+  pub yes : r ≡ true → Taken A cap perms perms'
+  pub none : r ≡ false → (l : List ℕ) → A perms l → suc (heard l) < cap
+  pub before : r ≡ false → Kept perms' space
+
+-- ---- the first label of a permission
+
+-- the first of the labels 1, 2, 0 that is permitted; 0 where none is
+abbrev pub first_in : ℕ → ℕ
+first_in p = cond (permits p 1) 1 (cond (permits p 2) 2 0)
+
+-- the rows from i up to row e are left their first label, the others stay
+pub record Fixed (perms perms' : List ℕ) (i e : ℕ) : Type 0 where
+  pub each : length perms' ≡ length perms
+  pub inside : e ≤ length perms
+  pub first : (r : ℕ) → i ≤ r → r < e → at perms' r ≡ only (first_in (at perms r))
+  pub lower : (r : ℕ) → r < i → at perms' r ≡ at perms r
+  pub upper : (r : ℕ) → e ≤ r → at perms' r ≡ at perms r
+
+-- row i and maybe some after it
+abbrev pub FixedFrom : List ℕ → List ℕ → ℕ → Type 0
+FixedFrom perms perms' i = (e : ℕ) × (i < e) × Fixed perms perms' i e
+
+-- Row i has one label, or only labels that come after the first one that it had.
+abbrev pub Advanced : List ℕ → List ℕ → ℕ → Type 0
+Advanced perms perms' i = OneAt perms' i ⊎ ((at perms' i < 8) × ((x : ℕ) → permits (at perms' i) x ≡ true → place (first_in (at perms i)) < place x))
+
+-- ---- what is lent
+
+-- what finding labels is lent: rows in order, and a cap that no assignment passes
+pub record FindReady (positions ends order perms : List ℕ) (m cap : ℕ) (left space : List ℕ) : Type 0 where
+  pub ready : Ready positions ends order perms m left space
+  pub permuted : Permuted (length positions) order
+  pub most : (l : List ℕ) → Ordered positions ends order perms l → suc (heard l) ≤ cap
+  pub some : 1 ≤ cap
+
+-- what narrowing is lent: a cap that some assignment reaches besides
+pub record NarrowReady (positions ends order perms : List ℕ) (m cap : ℕ) (left space : List ℕ) : Type 0 where
+  pub find : FindReady positions ends order perms m cap left space
+  pub reached : Reached (Ordered positions ends order) cap perms
+
+-- what the turn of row i is lent: the rows below have one label each, and the permissions are kept
 pub record RowReady (positions ends order perms : List ℕ) (m cap : ℕ) (left space : List ℕ) (i : ℕ) : Type 0 where
-  pub ready : Ready positions ends order perms m cap left space
-  pub row_below : i < length perms
+  pub narrow : NarrowReady positions ends order perms m cap left space
+  pub kept : Kept perms space
+  pub one : OneBelow perms i
+  pub inside : i < length perms

@@ -4,8 +4,9 @@ use Rattle.labels.specs.Labels.{heard, Best}
 use Rattle.labels.specs.Permission.{label_of}
 use Rattle.arcs.specs.Arcs.{Arcs}
 use Rattle.arcs.specs.Order.{Arranged}
-use Rattle.line.specs.Cells.{Lows, core_bytes}
-pub use Rattle.pairs.specs.Capped.{Most}
+use Rattle.line.specs.Cells.{core_bytes}
+use Rattle.line.specs.Filled.{NextRows}
+pub use Rattle.pairs.specs.Ready.{Most}
 
 -- what the functions are lent: arcs within their circle, a permission for each, and working space
 pub record Lent (C : ℕ) (starts lengths perms space : List ℕ) : Type 0 where
@@ -25,8 +26,8 @@ pub record Solved (C : List ℕ → Type 0) (narrowing : Bool) (r : ℕ) (perms 
   pub answered : narrowing ≡ true → Answered C r perms'
   pub kept : narrowing ≡ false → perms' ≡ perms
 
--- what the rows are after `prepare`: in order, m of them crossing the cut, with the low rows of the others, and the space behind its first 4,608 bytes as it was
+-- what the rows are after `prepare`: in order, m of them crossing the cut, with the next rows of the others, and the space behind its first 4,608 bytes as it was
 pub record Prepared (C : ℕ) (starts lengths positions ends order : List ℕ) (m : ℕ) (space space' : List ℕ) : Type 0 where
   pub arranged : Arranged C starts lengths positions ends order m
-  pub lows : Lows (drop m positions) (drop m ends) space'
+  pub next_rows : NextRows (drop m positions) (drop m ends) space'
   pub frame : drop core_bytes space' ≡ drop core_bytes space

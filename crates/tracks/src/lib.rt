@@ -1,99 +1,21 @@
 // The best two-track assignment of arcs under permissions.
 #![tactic(auto)]
 
-ghost use Rattle.std.specs.Prelude.{◌≡◌, false, ℕ, ◌≤◌, ◌<◌, length, drop, set};
-ghost use Rattle.line.specs.Cells.{cell_bytes, core_bytes};
-ghost use Rattle.basics.specs.Lists.{at};
-ghost use Rattle.labels.specs.Labels.{place};
-ghost use Rattle.labels.specs.Permission.{permits, only};
+ghost use Rattle.std.specs.Prelude.{◌≡◌, ◌≤◌, length, drop};
+ghost use Rattle.line.specs.Cells.{core_bytes};
 ghost use Rattle.arcs.specs.Arcs.{Arcs, Assigned};
-ghost use Rattle.pairs.specs.Capped.{Ready};
 ghost use Rattle.tracks.specs.Tracks.{Lent, Most, Answered, Solved, Prepared};
-ghost use Rattle.tracks.specs.Narrowing.{Ordered, Chosen, Narrowed, Tried, RowReady};
 
 use basics::MAX_ROWS;
-use labels::permission::{may_have, only_label};
+use narrowing::narrow;
 use pairs::OrderedRows;
+
+mod narrowing;
 
 // That the bytes of the space after the core's are as they were is a clause of each function that writes to it, here, in `best_plan` and in `candidates`: a relation of what it
 // held before to what it holds after, which no field of a struct can state.
 
-// Whether a permission permits a label that comes after this one, in the order 1, 2, 0.
-fn may_have_later(perm: u8, label: u8) -> bool
-    requires { label ≤ 2 }
-    ensures { result ≡ false → (y : ℕ) → place label < place y → permits perm y ≡ false }
-{
-    match label {
-        1 => may_have(perm, 2) || may_have(perm, 0),
-        2 => may_have(perm, 0),
-        _ => false,
-    }
-}
-
-// Tries the label for row i, whose permission was perm: it is taken if the best with it alone still reaches the cap. The last label that is permitted needs no try.
-// The lists that are written stay parameters, as in `pairs`.
-fn take_label(
-    rows: OrderedRows,
-    perms: &mut [u8],
-    cap: u8,
-    left: &mut [u8],
-    space: &mut [u8],
-    i: usize,
-    perm: u8,
-    label: u8,
-) -> bool
-    requires row_ready { RowReady rows.positions.now rows.ends.now rows.order.now perms.old rows.m cap left.old space.old i }
-    requires label_bound { label ≤ 2 }
-    ensures tried { Tried (Ordered rows.entry.positions.now rows.entry.ends.now rows.entry.order.now) cap perms.old i perm label perms.new result }
-    ensures space_unchanged { drop cell_bytes space.new ≡ drop cell_bytes space.old }
-{
-    if !may_have(perm, label) {
-        return false;
-    }
-    perms[i] = only_label(label);
-    if !may_have_later(perm, label) {
-        return true;
-    }
-    let best = rows.capped_best(perms, cap, left, space);
-    best == cap
-}
-
-// Leaves row i the first of the labels 1, 2, 0 with which the cap is still reached, and returns the label.
-fn narrow_row(
-    rows: OrderedRows,
-    perms: &mut [u8],
-    cap: u8,
-    left: &mut [u8],
-    space: &mut [u8],
-    i: usize,
-) -> u8
-    requires { RowReady rows.positions.now rows.ends.now rows.order.now perms.old rows.m cap left.old space.old i }
-    ensures chosen { Chosen (Ordered rows.entry.positions.now rows.entry.ends.now rows.entry.order.now) cap perms.old i (at perms.old i) result }
-    ensures perms_after { perms.new ≡ set perms.old i (only result) }
-    ensures space_unchanged { drop cell_bytes space.new ≡ drop cell_bytes space.old }
-{
-    let perm = perms[i];
-    for label in 1..3 {
-        if take_label(rows, perms, cap, left, space, i, perm, label) {
-            return label;
-        }
-    }
-    perms[i] = only_label(0);
-    0
-}
-
-// Leaves each row one label.
-fn narrow(rows: OrderedRows, perms: &mut [u8], cap: u8, left: &mut [u8], space: &mut [u8])
-    requires { Ready rows.positions.now rows.ends.now rows.order.now perms.old rows.m cap left.old space.old }
-    ensures narrowed { Narrowed (Ordered rows.entry.positions.now rows.entry.ends.now rows.entry.order.now) cap perms.old (length perms.old) perms.new }
-    ensures space_unchanged { drop cell_bytes space.new ≡ drop cell_bytes space.old }
-{
-    for i in 0..perms.len() {
-        narrow_row(rows, perms, cap, left, space, i);
-    }
-}
-
-// Turns the arcs into rows in order, `starts` into positions and `lengths` into ends, and sets the low rows of those that do not cross the cut; returns how many cross.
+// Turns the arcs into rows in order, `starts` into positions and `lengths` into ends, and sets the next rows of those that do not cross the cut; returns how many cross.
 fn prepare(
     circle: u16,
     starts: &mut [u16],
@@ -107,7 +29,7 @@ fn prepare(
     ensures { Prepared circle starts.old lengths.old starts.new lengths.new order.new result space.old space.new }
 {
     let m = arcs::arrange(circle, starts, lengths, order);
-    line::set_lows(&starts[m..], &lengths[m..], space);
+    line::set_nexts(&starts[m..], &lengths[m..], space);
     m
 }
 
@@ -135,8 +57,7 @@ fn solve_lent(
         order,
         m,
     };
-    // no 64 rows reach the cap 66
-    let best = rows.capped_best(perms, 66, left, space);
+    let best = rows.best(perms, left, space);
     if narrowing && 0 < best {
         narrow(rows, perms, best, left, space);
     }

@@ -1,54 +1,50 @@
--- `line_best`: the cells that matter hold what is best from row k on.
-use Prim.Native.Nat.{◌-◌}
-use mathlib.Core.Path.{◌∙◌, refl, sym}
-use native.Mathlib.Nat.{le_refl}
+-- `line_best`: the cells where both receivers are free from row j or a later one on are made.
+use mathlib.Core.Path.{◌≡◌, sym, ◌∙◌}
+use Prim.Native.Nat.{◌+◌, ◌*◌, ◌-◌}
 use native.Mathlib.Omega.{arith}
-use lib.ListN.{length, get_or-eq_default}
+use lib.ListN.{length}
 use lib.Seq.{drop-set-lt}
-use Rattle.line.specs.Cells.{cell_bytes}
-use Rattle.line.proofs.Turns.{holds_first, holds_small, holds_step, holds_last, turn}
-use Rattle.std.proofs.lemmas.List.{get_or_default}
+use Rattle.line.specs.Cells.{line_bytes}
+use Rattle.line.proofs.Turns.{rest_at, turn_rest}
+use Rattle.line.proofs.Stages.{numbered_same, filled_first, stage_more, filled_last, filled_value, ready, must_within, must_none, must_same, must_here}
 use Rattle.line.proofs.line_best.Goals as goal
 
-pub loop-k-init : goal.loop-k-init
-loop-k-init c =
-    let ss = c.args.starts.now in
+pub loop-j-init : goal.loop-j-init
+loop-j-init c =
+    let highs = c.set_highs.ensures in
+    let t = c.set_highs.new.space in
+    let n = numbered_same (omega arith) (λ j. rest_at c.args.space.now t line_bytes (4482 + j) highs.rest (omega arith)) c.requires in
     record {
-      rest = refl;
-      next_start = sym (get_or-eq_default ss 65535 (le_refl (length ss)));
-      holds = holds_first _ _ _ c.requires.line c.args.space.now (omega arith) (λ i. omega (arith, c.type_inv.ends i));
+      must = must_none c.args.perms.now;
+      filled = filled_first n highs.highs;
+      rest = drop-set-lt line_bytes t (length c.args.perms.now * 65 + length c.args.perms.now) 1 (omega arith) ∙ highs.rest;
     }
 
-pub invariant_of-turn : goal.invariant_of-turn
-invariant_of-turn c =
-    let l = c.loop-k in
-    let t = c.args.space.now in
+pub fill_turn-requires : goal.fill_turn-requires
+fill_turn-requires c =
+    let i = c.loop-j.invariant in
+    record { ready = ready (c.loop-j.j - 1) i.filled (omega arith); must_within = (omega (arith, i.must.from), must_within i.filled i.must) }
+
+pub loop-j-preserved-then-not-may_have : goal.loop-j-preserved-then-not-may_have
+loop-j-preserved-then-not-may_have c =
+    let i = c.loop-j.invariant in
     record {
-      turn =
-          rw c.from-low.ensures
-          (turn c.args.starts.now c.args.ends.now c.args.perms.now t l.space (l.k - 1) c.requires.line c.requires.lows
-          (l.invariant.rest ∙ drop-set-lt cell_bytes t 0 1 (omega arith)) (omega arith));
+      must = must_here (c.loop-j.j - 1) i.must (omega arith) (omega arith) (sym c.may_have.ensures ∙ c.if-not-may_have.true);
+      filled = stage_more (c.loop-j.j - 1) (omega arith) i.filled (omega arith) i.must c.fill_turn.ensures (omega arith);
+      rest = turn_rest c.fill_turn.ensures ∙ i.rest;
     }
 
-pub fill_stage-requires-clause-small : goal.fill_stage-requires-clause-small
-fill_stage-requires-clause-small c =
-    let l = c.loop-k in
-    holds_small c.args.starts.now c.args.ends.now c.args.perms.now c.requires.line _ l.k l.space (omega arith) (omega arith) l.invariant.holds _ l.invariant.next_start
-
-pub loop-k-preserved : goal.loop-k-preserved
-loop-k-preserved c =
-    let l = c.loop-k in
-    let ss = c.args.starts.now in
-    let made = c.fill_stage.ensures in
+pub loop-j-preserved : goal.loop-j-preserved
+loop-j-preserved c =
+    let i = c.loop-j.invariant in
     record {
-      rest = made.rest ∙ l.invariant.rest;
-      next_start = get_or_default ss (l.k - 1) 0 65535 (omega arith);
-      holds = holds_step ss c.args.ends.now c.args.perms.now c.requires.line _ l.k l.space (omega arith) (omega arith) l.invariant.holds _ _ _ l.invariant.next_start refl made;
+      must = must_same (c.loop-j.j - 1) i.must (omega arith) (sym c.may_have.ensures ∙ c.if-not-may_have.false);
+      filled = stage_more (c.loop-j.j - 1) (omega arith) i.filled (omega arith) i.must c.fill_turn.ensures (omega arith);
+      rest = turn_rest c.fill_turn.ensures ∙ i.rest;
     }
 
-pub returns : goal.returns
-returns c =
-    let l = c.loop-k in (
-      holds_last c.args.starts.now c.args.ends.now c.args.perms.now c.requires.line l.k l.space (omega arith) l.invariant.holds,
-      l.invariant.rest ∙ drop-set-lt cell_bytes c.args.space.now 0 1 (omega arith),
-    )
+pub returns-clause-value : goal.returns-clause-value
+returns-clause-value c = let l = c.loop-j in let e : l.j ≡ 0 = omega arith in filled_value (rw e at l.invariant.filled)
+
+pub returns-clause-filled : goal.returns-clause-filled
+returns-clause-filled c = let l = c.loop-j in let e : l.j ≡ 0 = omega arith in filled_last (rw e at l.invariant.filled)
