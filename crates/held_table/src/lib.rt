@@ -76,7 +76,7 @@ impl<'a> Held<'a> {
     }
 
     // The first n rows, a table of the round.
-    fn first(&self, n: usize) -> Table
+    fn first(&self, n: usize) -> Table<'_>
         requires { FirstRows n self.now }
         ensures { lent result ≡ first_rows n self.now }
     {
