@@ -139,7 +139,8 @@ pub struct Stepped {
     pub player: Player,
 }
 
-mod c {
+/// The C functions as include/hubplan.h declares them, for what compares them whole; all else has the safe functions.
+pub mod c {
     use crate::held::Numbers;
 
     #[repr(C)]
