@@ -45,9 +45,9 @@ int main(void)
         return 1;
     for (size_t i = 0; i < CANDIDATES; i++)
         print_answer(i);
-    printf("looked at %zu rows\n", tried.rows);
+    printf("looked at %u rows\n", (unsigned)tried.rows);
     marks[0] = marks[1] = HUB_MUST_1; /* two at once are too many for one receiver, with or without a candidate */
     tried = try_candidates();
-    printf("refused %u, looked at %zu rows\n", (unsigned)tried.refusal, tried.rows);
+    printf("refused %u, looked at %u rows\n", (unsigned)tried.refusal, (unsigned)tried.rows);
     return 0;
 }

@@ -14,7 +14,7 @@ static uint8_t space[HUB_SPACE_BYTES];
 static void print_change(struct hub_answer answer)
 {
     if (answer.refusal == HUB_ACCEPTED)
-        printf("heard %zu", answer.count);
+        printf("heard %u", (unsigned)answer.count);
     else
         printf("refused %u", (unsigned)answer.refusal);
     printf(", labels");
@@ -31,7 +31,7 @@ static void add(uint16_t start, uint16_t end, uint8_t mark)
 
 static void withdraw(size_t row)
 {
-    printf("withdraw row %zu: ", row);
+    printf("withdraw row %u: ", (unsigned)row);
     print_change(hub_table_withdraw(&table, row, space, sizeof space));
 }
 
@@ -44,7 +44,7 @@ static int print_tape(void)
                                                      tape, sizeof tape);
     if (written.refusal != HUB_ACCEPTED)
         return 1;
-    printf("plan tape of %zu bytes", written.count);
+    printf("plan tape of %u bytes", (unsigned)written.count);
     for (size_t i = 0; i < written.count; i++)
         printf(" %02X", (unsigned)tape[i]);
     printf("\n");

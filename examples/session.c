@@ -32,7 +32,7 @@ static int print_plan(uint16_t gap, uint8_t labels[ROWS])
     struct hub_answer plan = hub_plan_round(ticks, gap, starts, ROWS, ends, ROWS, marks, ROWS, labels, ROWS, space, sizeof space);
     if (plan.refusal != HUB_ACCEPTED)
         return refused("plan", plan.refusal);
-    printf("gap %u: heard %zu, labels", (unsigned)gap, plan.count);
+    printf("gap %u: heard %u, labels", (unsigned)gap, (unsigned)plan.count);
     for (size_t i = 0; i < ROWS; i++)
         printf(" %u", (unsigned)labels[i]);
     printf("\n");
@@ -77,13 +77,13 @@ int main(void)
     struct hub_answer written = hub_write_plan_round(ticks, 0, starts, ROWS, ends, ROWS, marks, ROWS, labels, ROWS, tape, sizeof tape);
     if (written.refusal != HUB_ACCEPTED)
         return refused("plan tape", written.refusal);
-    printf("plan tape of %zu bytes", written.count);
+    printf("plan tape of %u bytes", (unsigned)written.count);
     for (size_t i = 0; i < written.count; i++)
         printf(" %02X", (unsigned)tape[i]);
 
     /* a buffer of one byte less is refused */
     struct hub_answer too_short = hub_write_plan_round(ticks, 0, starts, ROWS, ends, ROWS, marks, ROWS, labels, ROWS, tape, written.count - 1);
-    printf("\nbuffer of %zu bytes: refused %u\n", written.count - 1, (unsigned)too_short.refusal);
+    printf("\nbuffer of %u bytes: refused %u\n", (unsigned)written.count - 1, (unsigned)too_short.refusal);
 
     uint8_t text[HUB_REPLY_BYTES];
     size_t length = hub_reply(fleet, sizeof fleet, text, sizeof text, space, sizeof space);

@@ -6,7 +6,6 @@
  */
 #include "hubplan.h"
 
-#include <inttypes.h>
 #include <stdio.h>
 
 #define ROWS 4
@@ -23,7 +22,7 @@ static uint64_t clashes[ROWS];
 /* The rows whose bits are 1. */
 static void print_rows(const char *what, uint64_t word)
 {
-    printf("%s: word %" PRIx64 ", rows", what, word);
+    printf("%s: word %llx, rows", what, (unsigned long long)word);
     for (unsigned i = 0; i < ROWS; i++)
         if (word >> i & 1)
             printf(" %u", i);
@@ -61,13 +60,13 @@ int main(void)
     struct hub_label_words words = hub_words_of_labels(labels, ROWS);
     if (words.refusal != HUB_ACCEPTED)
         return 1;
-    printf("heard %zu\n", words.count);
+    printf("heard %u\n", (unsigned)words.count);
     print_rows("heard", words.heard);
     print_rows("receiver 2", words.receiver);
     if (print_clashes(0, &words) || print_clashes(1, &words))
         return 1;
     struct hub_answer back = hub_labels_of_words(words.heard, words.receiver, labels_back, ROWS);
-    printf("heard %zu, labels", back.count);
+    printf("heard %u, labels", (unsigned)back.count);
     for (unsigned i = 0; i < ROWS; i++)
         printf(" %u", (unsigned)labels_back[i]);
     printf("\n");
