@@ -1,5 +1,5 @@
-/* Runs files of records on a Cortex-M3, whose names are the words of its command line, over semihosting: how many calls differ, how deep the stack went in each function, and how
- * many instructions each call with a name took. Ends with status 1 where a call differs. */
+/* Runs files of records on a Cortex-M3, over semihosting; the words of its command line name them. Prints how many calls differ, how deep the
+ * stack went in each function, and how many instructions each call with a name took. Ends with status 1 where a call differs. */
 #include <stdio.h>
 #include <stdlib.h>
 #include <string.h>
@@ -15,14 +15,17 @@ const size_t arena_words = ARENA_BYTES / 8;
 static uint8_t record[RECORD_BYTES];
 
 /* The processor's timer, which counts down 24 bits. */
-static volatile uint32_t *const timer_control = (uint32_t *)0xE000E010, *const timer_reload = (uint32_t *)0xE000E014, *const timer = (uint32_t *)0xE000E018;
+static volatile uint32_t *const timer_control = (uint32_t *)0xE000E010;
+static volatile uint32_t *const timer_reload = (uint32_t *)0xE000E014;
+static volatile uint32_t *const timer = (uint32_t *)0xE000E018;
 enum { TIMER_BITS = 0xFFFFFF };
 
 static uint32_t took;      /* of the timer, in the last call */
 static size_t stack_bytes; /* the deepest of the last call, with the arguments of the call */
 static size_t deepest[FUNCTIONS];
 
-/* Of this function's frame on, the call takes what it writes of the pattern; its caller puts arguments there as well. */
+/* Measures the stack below this function's frame, which is filled with a pattern: that of the library's function, and the frame of the
+ * function here that calls it, with its arguments. */
 __attribute__((noinline)) void make(void (*call)(void))
 {
     uintptr_t top;
@@ -39,7 +42,7 @@ __attribute__((noinline)) void make(void (*call)(void))
     stack_bytes = top - (uintptr_t)word;
 }
 
-/* So many instructions: two at each turn of the loop. */
+/* Two instructions at each turn, by which the timer's ticks are known as instructions. */
 static void loop(void)
 {
     __asm__ volatile("ldr r0, =%0\n1: subs r0, r0, #1\nbne 1b" : : "i"(LOOP) : "r0", "cc");

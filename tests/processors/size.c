@@ -9,6 +9,3 @@ void reset(void)
     for (unsigned i = 0; i < sizeof used / sizeof *used; i++)
         used[i]();
 }
-
-/* What the library's panics call, and what the C library names where a program stops: nothing here. */
-void panicked(void) {}
