@@ -1,5 +1,6 @@
 /* The hub planner for C. `tools/build library` proves and writes the library, target/staticlib/libhub_c.a (x86-64 Linux); each function below is proved to meet the
- * promise in its comment on every input (crates/hub_c; what the words mean is defined in the crates' specs/). The functions hub_table_.. are no part of the library and not
+ * promise in its comment on every input (crates/hub_c; what the words mean is defined in the crates' specs/). For other processors `tools/portable` writes the proved sources
+ * as plain Rust, with these functions (docs/PORTABLE.md). The functions hub_table_.. are no part of the library and not
  * proved: they stand here whole, each a call of one that is.
  *
  * What a caller owes, since C cannot say it:

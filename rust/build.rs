@@ -26,7 +26,7 @@ fn link_proved() {
     let archive = folder.join("libhub_c.a");
     println!("cargo:rerun-if-changed={}", archive.display());
     if !archive.exists() {
-        panic!("libhub_c.a is not there: run `tools/build library` in the repository first");
+        panic!("libhub_c.a is not there: run `tools/build library` in the repository first, or build with the feature `portable`");
     }
     println!("cargo:rustc-link-search=native={}", folder.display());
     println!("cargo:rustc-link-lib=static=hub_c");

@@ -1,7 +1,8 @@
 //! The proved hub planner for Rust: safe functions over the C interface of the crate `hub_c`.
 //!
 //! What each function promises is proved of the function that it calls (crates/hub_c). Here only slices are taken apart into
-//! addresses and lengths, and Rust's borrow rules see to it that the lists of one call do not overlap.
+//! addresses and lengths, and Rust's borrow rules see to it that the lists of one call do not overlap. With the feature `portable`,
+//! and on any target but x86-64 Linux, the functions called are those of the portable crate (docs/PORTABLE.md).
 
 pub mod candidates;
 pub mod distance;

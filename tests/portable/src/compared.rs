@@ -2,7 +2,7 @@
 
 use crate::drawn::drawn;
 use crate::functions::{Function, FUNCTIONS};
-use crate::given::{by_portable, by_proved, Given};
+use crate::given::{by_portable, by_proved, front_and_rest, with_list, Given, LISTS};
 use hubplan::tables::Sequence;
 use std::collections::BTreeMap;
 use std::panic::catch_unwind;
@@ -14,28 +14,46 @@ struct Tally {
     differ: usize,
 }
 
-/// One call by both libraries. Gives the refusal; where they differ, it is printed.
+/// A list as it is printed.
+fn told(places: &[u64]) -> String {
+    let (front, rest) = front_and_rest(places);
+    format!("{front:?} and {} times {rest}", places.len() - front.len())
+}
+
+/// Prints what a call was given, and each list that differs after it.
+fn print_call(function: Function, mut given: Given, mut proved: Given, mut portable: Given) {
+    for list in function.takes() {
+        println!("    given {list:?}: {}", told(&given.places(*list)));
+    }
+    for list in LISTS {
+        let (places, other) = (proved.places(list), portable.places(list));
+        if places != other {
+            println!("    {list:?}: {}, by the portable crate {}", told(&places), told(&other));
+        }
+        with_list!(given, list, places => places.clear());
+    }
+    println!("    given {given:?}");
+}
+
+/// One call by both libraries. Gives the refusal; where they differ, the call is printed.
 fn compare(function: Function, given: &Given) -> Option<u64> {
     let mut proved = given.clone();
     let answer = by_proved(function, &mut proved);
-    let portable = catch_unwind(|| {
+    let called = catch_unwind(|| {
         let mut portable = given.clone();
         (by_portable(function, &mut portable), portable)
     });
-    match portable {
-        Ok((other, portable)) if other == answer && portable == proved => Some(function.refusal(&answer, &proved.out)),
-        Ok((other, portable)) => {
-            println!(
-                "calls: FAILED: {} of {given:?} gives {answer:?} and {proved:?}, by the portable crate {other:?} and {portable:?}",
-                function.name()
-            );
-            None
-        }
-        Err(_) => {
-            println!("calls: FAILED: {} of {given:?} panics in the portable crate", function.name());
-            None
-        }
+    let Ok((other, portable)) = called else {
+        println!("calls: FAILED: {}: {answer:?}, and a panic in the portable crate", function.name());
+        print_call(function, given.clone(), proved.clone(), proved);
+        return None;
+    };
+    if (&other, &portable) == (&answer, &proved) {
+        return Some(function.refusal(&answer, &proved.out));
     }
+    println!("calls: FAILED: {}: {answer:?}, by the portable crate {other:?}", function.name());
+    print_call(function, given.clone(), proved, portable);
+    None
 }
 
 /// So many calls, from a sequence of their own.

@@ -73,19 +73,19 @@ pub const LISTS: [List; 13] = [
 macro_rules! with_list {
     ($given:expr, $list:expr, $name:ident => $done:expr) => {
         match $list {
-            List::Starts => with_list!(@ $name $given.starts, $done),
-            List::Ends => with_list!(@ $name $given.ends, $done),
-            List::Marks => with_list!(@ $name $given.marks, $done),
-            List::Labels => with_list!(@ $name $given.labels, $done),
-            List::CandidateStarts => with_list!(@ $name $given.candidate_starts, $done),
-            List::CandidateEnds => with_list!(@ $name $given.candidate_ends, $done),
-            List::CandidateMarks => with_list!(@ $name $given.candidate_marks, $done),
-            List::Numbers => with_list!(@ $name $given.numbers, $done),
-            List::Counts => with_list!(@ $name $given.counts, $done),
-            List::Tape => with_list!(@ $name $given.tape, $done),
-            List::Out => with_list!(@ $name $given.out, $done),
-            List::Space => with_list!(@ $name $given.space, $done),
-            List::Words => with_list!(@ $name $given.words, $done),
+            $crate::given::List::Starts => with_list!(@ $name $given.starts, $done),
+            $crate::given::List::Ends => with_list!(@ $name $given.ends, $done),
+            $crate::given::List::Marks => with_list!(@ $name $given.marks, $done),
+            $crate::given::List::Labels => with_list!(@ $name $given.labels, $done),
+            $crate::given::List::CandidateStarts => with_list!(@ $name $given.candidate_starts, $done),
+            $crate::given::List::CandidateEnds => with_list!(@ $name $given.candidate_ends, $done),
+            $crate::given::List::CandidateMarks => with_list!(@ $name $given.candidate_marks, $done),
+            $crate::given::List::Numbers => with_list!(@ $name $given.numbers, $done),
+            $crate::given::List::Counts => with_list!(@ $name $given.counts, $done),
+            $crate::given::List::Tape => with_list!(@ $name $given.tape, $done),
+            $crate::given::List::Out => with_list!(@ $name $given.out, $done),
+            $crate::given::List::Space => with_list!(@ $name $given.space, $done),
+            $crate::given::List::Words => with_list!(@ $name $given.words, $done),
         }
     };
     (@ $name:ident $list:expr, $done:expr) => {{
@@ -94,6 +94,20 @@ macro_rules! with_list {
     }};
 }
 pub(crate) use with_list;
+
+impl Given {
+    /// The places of a list as numbers.
+    pub fn places(&mut self, list: List) -> Vec<u64> {
+        with_list!(self, list, places => places.iter().map(|place| u64::from(*place)).collect())
+    }
+}
+
+/// A list as its places up to the last that differs from the one at its end, and what all after these are.
+pub fn front_and_rest(places: &[u64]) -> (&[u64], u64) {
+    let rest = places.last().copied().unwrap_or(0);
+    let front = places.iter().rposition(|place| *place != rest).map_or(0, |last| last + 1);
+    (&places[..front], rest)
+}
 
 /// The fields of an answer as numbers.
 macro_rules! fields {

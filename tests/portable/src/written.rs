@@ -1,13 +1,13 @@
 //! Calls with the proved library's answers, as records for other processors (tests/processors/calls.c). All numbers are little-endian:
 //!
-//! - a record: the length of the rest (4 bytes), the number of the function (1), the length of a name (1) and the name, what the call is given, how many numbers the answer has (1)
-//!   and these (8 each), the lists after the call;
+//! - a record: the length of the rest (4 bytes), the number of the function (1), the length of a name (1) and the name, what the call is
+//!   given, how many numbers the answer has (1) and these (8 each), the lists after the call;
 //! - what it is given: fifteen numbers (8 each) and thirteen lists;
 //! - a list: its length (4), how many of its places are written out (4), the value of all others (8), and those places.
 
 use crate::drawn::{drawn, fleet_tape, whole};
 use crate::functions::{Function, FUNCTIONS};
-use crate::given::{by_proved, with_list, Given, List, LISTS};
+use crate::given::{by_proved, front_and_rest, with_list, Given, List, LISTS};
 use hubplan::tables::{benchmark_mixtures, benchmark_tables, in_turn, mixture, Sequence, Table};
 use hubplan::{Kind, Player, PLAN_TAPE_BYTES, REPLY_BYTES, SPACE_BYTES};
 use std::collections::BTreeMap;
@@ -19,19 +19,18 @@ use std::path::Path;
 const STEPS: u8 = FUNCTIONS.len() as u8;
 
 /// Adds a number to a sum that tells sequences apart (FNV-1a, in words).
-pub fn add_to_sum(sum: u64, number: u64) -> u64 {
+fn add_to_sum(sum: u64, number: u64) -> u64 {
     (sum ^ number).wrapping_mul(0x0000_0100_0000_01B3)
 }
-pub const EMPTY_SUM: u64 = 0xCBF2_9CE4_8422_2325;
+const EMPTY_SUM: u64 = 0xCBF2_9CE4_8422_2325;
 
 /// A list as it is written, of `places` as numbers that take `width` bytes.
 fn put_list(bytes: &mut Vec<u8>, width: usize, places: &[u64]) {
-    let fill = places.last().copied().unwrap_or(0);
-    let listed = places.iter().rposition(|place| *place != fill).map_or(0, |last| last + 1);
+    let (listed, fill) = front_and_rest(places);
     bytes.extend((places.len() as u32).to_le_bytes());
-    bytes.extend((listed as u32).to_le_bytes());
+    bytes.extend((listed.len() as u32).to_le_bytes());
     bytes.extend(fill.to_le_bytes());
-    for place in &places[..listed] {
+    for place in listed {
         bytes.extend(&place.to_le_bytes()[..width]);
     }
 }
@@ -43,8 +42,7 @@ fn put_lists(bytes: &mut Vec<u8>, given: &mut Given) {
             List::Words => 8,
             _ => 1,
         };
-        let places: Vec<u64> = with_list!(given, list, places => places.iter().map(|place| u64::from(*place)).collect());
-        put_list(bytes, width, &places);
+        put_list(bytes, width, &given.places(list));
     }
 }
 
