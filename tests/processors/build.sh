@@ -45,7 +45,7 @@ planner_for() {
     shift 2
     core_for "$target"
     mkdir -p "$to"
-    compile=("$rustc" --edition 2024 --target "$target" -C panic=abort -D warnings -L "$folder/core-$version-$target" -L "$to" --out-dir "$to" "$@")
+    compile=("$rustc" --edition 2024 --target "$target" -C panic=abort -L "$folder/core-$version-$target" -L "$to" --out-dir "$to" "$@")
     "${compile[@]}" --crate-type rlib --crate-name hubplan_portable "$portable/src/lib.rs"
 }
 

@@ -208,6 +208,16 @@ fn refusals(records: &mut Records, sequence: &mut Sequence) -> usize {
     records.calls - before
 }
 
+/// So many random calls of each function, whole and damaged. Gives how many that are.
+fn random_calls(records: &mut Records, sequence: &mut Sequence, calls: usize) -> usize {
+    for function in FUNCTIONS {
+        for _ in 0..calls {
+            records.call(function, "", drawn(sequence, function));
+        }
+    }
+    FUNCTIONS.len() * calls
+}
+
 /// Calls of each function with many rows, some of them with 64 candidates. Gives how many that are.
 fn large(records: &mut Records, sequence: &mut Sequence) -> usize {
     let before = records.calls;
@@ -285,11 +295,12 @@ pub fn write_all(folder: &Path) -> io::Result<()> {
     let mut calls = Records::default();
     session(&mut calls);
     let refused = refusals(&mut calls, &mut sequence);
+    let random = random_calls(&mut calls, &mut sequence, 100);
     let large = large(&mut calls, &mut sequence);
     let with_plan = random_tables(&mut calls, &mut sequence, 300);
     day(&mut calls);
     let what = format!(
-        "the session, {refused} for each refusal of each function, {large} of 48 rows and more, 300 random tables of which {with_plan} have a plan, and a day of a player"
+        "the session, {refused} for each refusal of each function, {random} random ones, {large} of 48 rows and more, 300 random tables of which {with_plan} have a plan, and a day of a player"
     );
     calls.save(folder, "calls", &what)?;
 
