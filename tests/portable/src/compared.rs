@@ -25,7 +25,7 @@ fn print_call(function: Function, mut given: Given, mut proved: Given, mut porta
     for list in function.takes() {
         println!("    given {list:?}: {}", told(&given.places(*list)));
     }
-    for list in LISTS {
+    for &list in LISTS {
         let (places, other) = (proved.places(list), portable.places(list));
         if places != other {
             println!("    {list:?}: {}, by the portable crate {}", told(&places), told(&other));

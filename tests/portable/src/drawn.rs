@@ -205,69 +205,71 @@ fn damage_tape(sequence: &mut Sequence, tape: &mut Vec<u8>) {
     }
 }
 
-/// Changes one thing that a call is given; of a function that takes a tape, every other time the tape.
-fn damage(sequence: &mut Sequence, function: Function, given: &mut Given) {
-    if function.takes().contains(&List::Tape) && sequence.one_in(2) {
-        return damage_tape(sequence, &mut given.tape);
-    }
-    match sequence.within(0, 18) {
+/// Changes a number.
+fn damage_number(sequence: &mut Sequence, given: &mut Given) {
+    match sequence.within(0, 6) {
         0 => given.ticks = one_of(sequence, &[0, 1, 2, 43_200, 43_201, 65_535]),
         1 => given.gap = one_of(sequence, &[600, 601, 65_535]),
         2 => given.hours[sequence.within(0, 3) as usize] = word(sequence),
-        3 => resize(sequence, &mut given.starts),
-        4 => resize(sequence, &mut given.ends),
-        5 => resize(sequence, &mut given.marks),
-        6 => resize(sequence, &mut given.labels),
-        7 => match sequence.within(0, 4) {
+        3 => (given.start, given.end) = (word(sequence), word(sequence)),
+        4 => given.mark = one_of(sequence, &[1, 3, 5, 6, 255]),
+        5 => {
+            given.tick = one_of(sequence, &[0, 1, 65_534, 65_535]);
+            given.row = one_of(sequence, &[0, 63, 64, u32::MAX as usize]);
+            given.rows = one_of(sequence, &[0, 1, 63, 64, 65, u32::MAX as usize]);
+            given.count = one_of(sequence, &[0, u32::MAX as usize]);
+        }
+        _ => {
+            given.heard ^= 1 << sequence.within(0, 63);
+            given.receiver ^= 1 << sequence.within(0, 63);
+        }
+    }
+}
+
+/// Changes how long a list is, or all lists of a table.
+fn damage_length(sequence: &mut Sequence, given: &mut Given) {
+    match sequence.within(0, 7) {
+        0 => resize(sequence, &mut given.starts),
+        1 => resize(sequence, &mut given.ends),
+        2 => resize(sequence, &mut given.marks),
+        3 => resize(sequence, &mut given.labels),
+        4 => match sequence.within(0, 4) {
             0 => resize(sequence, &mut given.candidate_starts),
             1 => resize(sequence, &mut given.candidate_ends),
             2 => resize(sequence, &mut given.candidate_marks),
             3 => resize(sequence, &mut given.numbers),
             _ => resize(sequence, &mut given.counts),
         },
-        8 => {
-            let length = one_of(sequence, &[0, 1, SPACE_BYTES - 1, SPACE_BYTES + 1]);
-            given.space.resize(length, 7);
-        }
-        9 => {
-            let length = one_of(sequence, &[0, 8, 20, REPLY_BYTES - 1, REPLY_BYTES]);
-            given.out.resize(length, 7);
-        }
-        10 => {
-            let value = word(sequence);
-            poke(sequence, &mut given.starts, value);
-        }
-        11 => {
-            let value = word(sequence);
-            poke(sequence, &mut given.ends, value);
-        }
-        12 => {
-            let value = one_of(sequence, &[1, 3, 5, 6, 255]);
-            poke(sequence, &mut given.marks, value);
-            poke(sequence, &mut given.candidate_marks, value);
-            given.mark = value;
-        }
-        13 => {
-            let value = one_of(sequence, &[0, 1, 2, 3, 255]);
-            poke(sequence, &mut given.labels, value);
-        }
-        14 => damage_tape(sequence, &mut given.tape),
-        15 => {
-            (given.start, given.end) = (word(sequence), word(sequence));
-            let value = word(sequence);
-            poke(sequence, &mut given.candidate_starts, value);
-        }
-        16 => {
-            given.tick = one_of(sequence, &[0, 1, 65_534, 65_535]);
-            given.row = one_of(sequence, &[0, 63, 64, u32::MAX as usize]);
-            given.rows = one_of(sequence, &[0, 1, 63, 64, 65, u32::MAX as usize]);
-            given.count = one_of(sequence, &[0, u32::MAX as usize]);
-        }
-        17 => {
-            given.heard ^= 1 << sequence.within(0, 63);
-            given.receiver ^= 1 << sequence.within(0, 63);
-        }
+        5 => given.space.resize(one_of(sequence, &[0, 1, SPACE_BYTES - 1, SPACE_BYTES + 1]), 7),
+        6 => given.out.resize(one_of(sequence, &[0, 8, 20, REPLY_BYTES - 1, REPLY_BYTES]), 7),
         _ => lengthen(sequence, given),
+    }
+}
+
+/// Changes a place of a list.
+fn damage_place(sequence: &mut Sequence, given: &mut Given) {
+    let (number, mark, label) = (word(sequence), one_of(sequence, &[1, 3, 5, 6, 255]), one_of(sequence, &[0, 1, 2, 3, 255]));
+    match sequence.within(0, 4) {
+        0 => poke(sequence, &mut given.starts, number),
+        1 => poke(sequence, &mut given.ends, number),
+        2 => poke(sequence, &mut given.candidate_starts, number),
+        3 => {
+            poke(sequence, &mut given.marks, mark);
+            poke(sequence, &mut given.candidate_marks, mark);
+        }
+        _ => poke(sequence, &mut given.labels, label),
+    }
+}
+
+/// Changes one thing that a call is given; of a function that takes a tape, every other time the tape.
+fn damage(sequence: &mut Sequence, function: Function, given: &mut Given) {
+    if function.takes().contains(&List::Tape) && sequence.one_in(2) {
+        return damage_tape(sequence, &mut given.tape);
+    }
+    match sequence.within(0, 2) {
+        0 => damage_number(sequence, given),
+        1 => damage_length(sequence, given),
+        _ => damage_place(sequence, given),
     }
 }
 

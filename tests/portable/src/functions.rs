@@ -1,9 +1,10 @@
 //! The functions of the library, the lists that each takes, and the refusals that each gives.
 
-use crate::given::List;
+use crate::given::{all_of, List};
 
-#[derive(Clone, Copy, Debug, PartialEq, Eq)]
-pub enum Function {
+all_of! {
+    /// The functions in the order of their numbers in the records for other processors (tests/processors/calls.c).
+    Function, FUNCTIONS:
     PlanRound,
     PlanRun,
     WritePlanRound,
@@ -25,28 +26,6 @@ pub enum Function {
 }
 
 use Function::*;
-
-/// Each function, in the order of their numbers in the records for other processors (tests/processors/calls.c).
-pub const FUNCTIONS: [Function; 18] = [
-    PlanRound,
-    PlanRun,
-    WritePlanRound,
-    WritePlanRun,
-    ReadFleet,
-    Reply,
-    PlayerStart,
-    PlayerStep,
-    HeldBegin,
-    HeldAdd,
-    HeldWithdraw,
-    TryCandidatesRound,
-    TryCandidatesRun,
-    WordsOfLabels,
-    LabelsOfWords,
-    MustOfMarks,
-    ClashWordsRound,
-    ClashWordsRun,
-];
 
 /// What a step of a player gives in place of a refusal.
 pub const FINISHED: u64 = 1;

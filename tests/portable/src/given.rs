@@ -35,9 +35,22 @@ pub struct Given {
     pub words: Vec<u64>,
 }
 
-/// The lists of a call, in the order of the records for other processors.
-#[derive(Clone, Copy, Debug, PartialEq, Eq)]
-pub enum List {
+/// An enum of some names, and the list of all of them.
+macro_rules! all_of {
+    ($(#[$text:meta])* $name:ident, $all:ident: $($variant:ident,)*) => {
+        $(#[$text])*
+        #[derive(Clone, Copy, Debug, PartialEq, Eq)]
+        pub enum $name {
+            $($variant),*
+        }
+        pub const $all: &[$name] = &[$($name::$variant),*];
+    };
+}
+pub(crate) use all_of;
+
+all_of! {
+    /// The lists of a call, in the order of the records for other processors.
+    List, LISTS:
     Starts,
     Ends,
     Marks,
@@ -52,22 +65,6 @@ pub enum List {
     Space,
     Words,
 }
-
-pub const LISTS: [List; 13] = [
-    List::Starts,
-    List::Ends,
-    List::Marks,
-    List::Labels,
-    List::CandidateStarts,
-    List::CandidateEnds,
-    List::CandidateMarks,
-    List::Numbers,
-    List::Counts,
-    List::Tape,
-    List::Out,
-    List::Space,
-    List::Words,
-];
 
 /// Does the same with a list of a call, whatever the width of its places.
 macro_rules! with_list {

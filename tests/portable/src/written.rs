@@ -36,7 +36,7 @@ fn put_list(bytes: &mut Vec<u8>, width: usize, places: &[u64]) {
 }
 
 fn put_lists(bytes: &mut Vec<u8>, given: &mut Given) {
-    for list in LISTS {
+    for &list in LISTS {
         let width = match list {
             List::Starts | List::Ends | List::CandidateStarts | List::CandidateEnds => 2,
             List::Words => 8,
@@ -91,7 +91,7 @@ impl Records {
 
     /// Makes the call and writes it with its answer. Lists that the function does not take are left out. Gives the refusal, and what the call left.
     fn call(&mut self, function: Function, name: &str, mut before: Given) -> (u64, Given) {
-        for list in LISTS {
+        for &list in LISTS {
             if !function.takes().contains(&list) {
                 with_list!(before, list, places => places.clear());
             }
@@ -190,7 +190,7 @@ fn session(records: &mut Records) {
 /// Calls of each function until it has given each of its refusals three times. Gives how many that are.
 fn refusals(records: &mut Records, sequence: &mut Sequence) -> usize {
     let before = records.calls;
-    for function in FUNCTIONS {
+    for &function in FUNCTIONS {
         let mut left: BTreeMap<u64, usize> = function.gives().iter().map(|refusal| (*refusal, 3)).collect();
         while left.values().any(|times| *times > 0) {
             let given = drawn(sequence, function);
@@ -210,7 +210,7 @@ fn refusals(records: &mut Records, sequence: &mut Sequence) -> usize {
 
 /// So many random calls of each function, whole and damaged. Gives how many that are.
 fn random_calls(records: &mut Records, sequence: &mut Sequence, calls: usize) -> usize {
-    for function in FUNCTIONS {
+    for &function in FUNCTIONS {
         for _ in 0..calls {
             records.call(function, "", drawn(sequence, function));
         }
@@ -221,7 +221,7 @@ fn random_calls(records: &mut Records, sequence: &mut Sequence, calls: usize) ->
 /// Calls of each function with many rows, some of them with 64 candidates. Gives how many that are.
 fn large(records: &mut Records, sequence: &mut Sequence) -> usize {
     let before = records.calls;
-    for function in FUNCTIONS {
+    for &function in FUNCTIONS {
         for _ in 0..10 {
             let mut given = whole(sequence, function);
             while if function.has_places() { given.rows } else { given.starts.len() } < 48 {
@@ -270,7 +270,7 @@ fn day(records: &mut Records) {
 /// is as long as it was for who counts in 16 bits; and all lists together.
 fn long_lists(sequence: &mut Sequence) -> Records {
     let mut records = Records::default();
-    for function in FUNCTIONS {
+    for &function in FUNCTIONS {
         for list in function.takes() {
             let mut given = whole(sequence, function);
             with_list!(given, *list, places => { let length = places.len(); places.resize(length + (1 << 16), 0) });
