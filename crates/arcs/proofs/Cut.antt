@@ -1,4 +1,5 @@
--- Positions and ends from a cut say whether arcs meet: the distance of two ticks is that of their positions, and the rest is linear.
+-- Positions and ends from a cut say whether arcs meet: the distance of two ticks is that of their positions, and the
+-- rest is linear.
 use Prim.Native.Nat.{ℕ, ◌+◌, ◌-◌, ◌≤◌, ◌<◌}
 use mathlib.Core.Path.{◌≡◌, refl, sym, ◌∙◌}
 use mathlib.Core.Logic.Iff

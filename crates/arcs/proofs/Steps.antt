@@ -1,4 +1,5 @@
--- `distance` by cases, so that all that follows is linear: a tick after the start is reached directly, a tick before it past the end of the circle.
+-- `distance` by cases, so that all that follows is linear: a tick after the start is reached directly, a tick before it
+-- past the end of the circle.
 use Prim.Native.Nat.{ℕ, ◌+◌, ◌%◌, ◌<◌}
 use mathlib.Core.Path.{◌≡◌, ◌∙◌}
 use mathlib.Core.Bool.{Bool}

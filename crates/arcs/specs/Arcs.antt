@@ -18,7 +18,8 @@ pub record Meet (C s n s' n' : ℕ) : Type 0 where
   pub in_first : Covers C s n tick
   pub in_second : Covers C s' n' tick
 
--- rows that tracks can be assigned to: at most 64 arcs of a circle of C ticks, each of at least one tick and at most the whole circle
+-- rows that tracks can be assigned to: at most 64 arcs of a circle of C ticks, each of at least one tick and at most
+-- the whole circle
 pub record Arcs (C : ℕ) (starts lengths : List ℕ) : Type 0 where
   pub some : 1 ≤ C
   pub few : length starts ≤ max_rows

@@ -1,4 +1,5 @@
--- Bool tests and what they say: a test written clause for clause like a statement is true exactly if the statement holds.
+-- Bool tests and what they say: a test written clause for clause like a statement is true exactly if the statement
+-- holds.
 use Prim.Native.Nat.{ℕ, zero, suc, ◌+◌, ◌≤◌, ◌<◌}
 use mathlib.Core.Path.{◌≡◌, refl, sym}
 use mathlib.Core.Logic.Iff

@@ -1,7 +1,7 @@
 -- Believed: The limit that every list of rows has, and lists with a place for each row that there can be.
 use Rattle.std.specs.Prelude.{ℕ, ◌≡◌, Bool, ◌&&◌, List, eqb, length}
 
--- "A table has 0 to 64 rows"
+-- a table has at most so many rows
 abbrev pub max_rows : ℕ
 max_rows = 64
 

@@ -1,4 +1,5 @@
--- Believed: Lists of numbers: the entry at a place, the list of so many entries, a text at the front, an entry taken out, bytes stored at a place, neighbours exchanged.
+-- Believed: Lists of numbers: the entry at a place, the list of so many entries, a text at the front, an entry taken
+-- out, bytes stored at a place, neighbours exchanged.
 use Rattle.std.specs.Prelude.{ℕ, zero, suc, ◌+◌, ◌≡◌, List, [], ◌∷◌, ◌++◌, length, get_or, drop}
 use Rattle.std.proofs.lemmas.List.Edits.{sets}
 

@@ -1,4 +1,4 @@
--- Inner: Tests that are written clause for clause like the statements that they decide.
+-- Believed: Tests that are written clause for clause like the statements that they decide.
 use Rattle.std.specs.Prelude.{ℕ, zero, suc, Bool, true, false, ◌&&◌}
 
 infixr 25 ◌⇒◌

@@ -5,10 +5,10 @@ ghost use Rattle.std.specs.Prelude.{◌≡◌, ◌<◌, [], ◌∷◌, length};
 ghost use Rattle.basics.specs.Limits.{has_places};
 ghost use Rattle.basics.specs.Lists.{Put};
 
-// "A table has 0 to 64 rows."
+// A table has at most so many rows.
 pub const MAX_ROWS: usize = 64;
 
-// Whether the lists of starts, ends and marks have 64 places each. Of three lengths, not of `table::Rows`: the lists are lent to be written, and its slices only read.
+// Whether the lists of starts, ends and marks, whose lengths these are, have 64 places each.
 pub fn has_places(starts: usize, ends: usize, marks: usize) -> bool
     ensures { result ≡ has_places starts ends marks }
 {

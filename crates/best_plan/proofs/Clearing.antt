@@ -1,4 +1,5 @@
--- Planning and counting touch no byte that is not cleared afterwards: the working space is then as paper 01 says of a plan and of refusal 8.
+-- Planning and counting touch no byte that is not cleared afterwards: the working space is then what the definition
+-- `space_after` says of a plan and of refusal 8.
 use Prim.Native.Nat.{ℕ, ◌-◌}
 use mathlib.Core.Path.{◌≡◌, refl, sym, ap, ◌∙◌}
 use mathlib.Core.Bool.{true, ◌||◌}

@@ -1,7 +1,7 @@
 -- Laws of the best plan of a checked table.
 pub mod Reach
 pub mod Rows
-pub mod Request3
-pub mod Request4
+pub mod AllDay
+pub mod Gaps
 pub mod Given
 pub mod Clearing

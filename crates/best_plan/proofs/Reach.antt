@@ -1,4 +1,5 @@
--- A window with the gap after it, as an arc: two windows are too close exactly if their arcs meet. Run and round together.
+-- A window with the gap after it, as an arc: two windows are too close exactly if their arcs meet. Run and round
+-- together.
 use Prim.Native.Nat.{ℕ, suc, ◌+◌, ◌-◌, ◌≤◌, ◌<◌}
 use mathlib.Core.Path.{◌≡◌, sym, ap₂, ◌∙◌}
 use mathlib.Core.Logic.{◌↔◌, ◌⊎◌, inl, inr}

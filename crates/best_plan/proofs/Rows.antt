@@ -1,4 +1,5 @@
--- From paper to core: a list of labels is a plan of a checked table exactly if it is an assignment of its arcs and permissions. Run and round together.
+-- From tables to the core: a list of labels is a plan of a checked table exactly if it is an assignment of its arcs
+-- and permissions. Run and round together.
 use Prim.Native.Nat.{ℕ, ◌+◌, ◌≤◌, ◌<◌}
 use mathlib.Core.Path.{◌≡◌, refl, sym, ◌∙◌}
 use mathlib.Core.Logic.{◌≢◌, ◌↔◌, ◌⊎◌, inl, inr}
@@ -79,7 +80,7 @@ module _ (t : Table) (valid : Valid t) {starts lengths perms : List ℕ} (arcs :
       within : (i : ℕ) → i < length starts → i < rows t
       within i h = omega (arith, arcs.lists.each_start)
 
-  -- THE STEP from paper to core
+  -- THE STEP FROM TABLES TO THE CORE: the plans are the assignments
   pub plan_assigned : (l : List ℕ) → Plan t l ↔ Assigned (circle_of t.setting) starts lengths perms l
   plan_assigned l = rw arcs.lists.each_start (assignment_iff (rows t) mays clashes l)
     where
@@ -103,7 +104,8 @@ arcs_of t e p x y z = record { lists = record { each_start = x ∙ e; each_lengt
 
 -- ---- a row more
 
--- in a list that begins with an entry for each row, the entry after them is set: then there is one for each row of the longer table
+-- in a list that begins with an entry for each row, the entry after them is set: then there is one for each row of
+-- the longer table
 module _ (t : Table) (valid : Valid t) (new : Row) (f : Row → ℕ) (old : List ℕ) {n : ℕ} (all : n ≡ rows t) {l : List ℕ} (e : l ≡ set old n (f new)) (more : rows (with_row t new) ≤ length old) where
   entry_with : ((i : ℕ) → i < rows t → at old i ≡ f (row_at t i)) → (i : ℕ) → i < rows (with_row t new) → at l i ≡ f (row_at (with_row t new) i)
   entry_with h i b = go (eq-or-lt_of_le (omega (arith, rows_with_row t new)))

@@ -1,4 +1,5 @@
--- Inner: The rows of a checked table as arcs of a circle and permissions: a row's arc has the ticks of its window and of the gap after it, and its permission the labels that a plan allows it.
+-- Inner: The rows of a checked table as arcs of a circle and permissions: a row's arc has the ticks of its window and
+-- of the gap after it, and its permission the labels that a plan allows it.
 use Rattle.std.specs.Prelude.{ℕ, zero, suc, ◌+◌, ◌≤◌, ◌<◌, ◌≡◌, cond, List, leb, length, Option, Some, None}
 use Rattle.std.proofs.Math.Option.{Option as Maybe, none, some}
 use Rattle.line.specs.Cells.{core_bytes}
@@ -16,7 +17,8 @@ use Rattle.table.specs.Tables.{Table, rows, row_at, is_allowed, ValidSetting, Va
 use Rattle.table.specs.Changes.{with_row}
 use Rattle.best_plan.specs.declared.Arc.{Arc}
 
--- The ticks of the circle. A run is a circle that no arc crosses: the longest gap fits between its last tick and its first, so that the gap of the last window does not reach the first.
+-- The ticks of the circle. A run is a circle that no arc crosses: the longest gap fits between its last tick and its
+-- first, so that the gap of the last window does not reach the first.
 unfoldable pub circle_ticks : Kind → ℕ → ℕ
 circle_ticks Round R = R
 circle_ticks Run R = R + max_gap

@@ -1,4 +1,5 @@
-// The best plan of a table that has passed its checks, its count alone, and the clearing of the working space: what the planner and its like are made of.
+// The best plan of a table that has passed its checks, its count alone, and the clearing of the working space: the
+// parts of the planner and of the other calls that plan (docs/RULES.md, What the planner promises).
 #![tactic(auto)]
 
 ghost use Rattle.std.specs.Prelude.{◌≡◌, ◌+◌, ◌++◌, map, ◌≤◌, length, drop, replicate, set};
@@ -24,7 +25,8 @@ pub struct Arc {
     pub length: u16,
 }
 
-// The ticks of the circle on which a table's rows are arcs. R is at most 43,200, so that the sum, at most 43,800, fits 16 bits.
+// The ticks of the circle on which a table's rows are arcs. The sum fits 16 bits, being at most MAX_TICKS + MAX_GAP,
+// 43,800.
 #[tactic(auto, unfolding(crate::specs::Rows::circle_ticks))]
 fn circle_of(setting: Setting) -> u16
     requires { ValidSetting setting }
@@ -36,8 +38,8 @@ fn circle_of(setting: Setting) -> u16
     }
 }
 
-// The arc of a row, cut off at the circle. A window has at most R ticks and R is at most 43,200; the gap is at most 600: the sum, at most 43,800, fits 16 bits.
-// Setting and row come apart here and below: a setting stands beside many rows, and first in each definition.
+// The arc of a row, cut off at the circle. The sum fits 16 bits, since a window has at most MAX_TICKS ticks and the
+// gap is at most MAX_GAP.
 #[tactic(auto, using(window::proofs::Meaning::ticks_most), unfolding(crate::specs::Rows::arc_of))]
 fn arc_of(setting: Setting, row: Row) -> Arc
     requires { HasArc setting row }
@@ -62,7 +64,7 @@ fn permission(setting: Setting, row: Row) -> u8
     )
 }
 
-// Writes the arc and permission of a row at place i. The three lists stay apart, as the core takes them; a struct of `&mut` lists would only be taken apart for it.
+// Writes the arc and permission of a row at place i of the three lists that the core takes.
 fn set_arc(
     setting: Setting,
     row: Row,
@@ -104,7 +106,7 @@ fn set_arcs(
     }
 }
 
-// Writes the label of each permission. Tried as a `zip` of both lists: the proof of what the labels are after the loop did not close.
+// Writes the label of each permission.
 fn set_labels(perms: &[u8], labels: &mut [u8])
     requires { length labels.old ≡ length perms.now }
     ensures { labels.new ≡ map label_of perms.now }
@@ -114,20 +116,19 @@ fn set_labels(perms: &[u8], labels: &mut [u8])
     }
 }
 
-// The count in an answer of the core, which is one more, and 0 without an assignment.
+// The count in an answer of the core, which is one more than the count, and 0 without an assignment.
 fn count_in(best: u8) -> Option<usize>
     ensures { result ≡ count_in best }
 {
     best.checked_sub(1).map(usize::from)
 }
 
-// Plans a table that has passed its checks. It leaves open what the first 4,608 bytes of the working space then hold; that it leaves the others stands in each contract
-// that lends the space, here and in `candidates`, since a function promises this of its own call and no type can.
-// Its arrays and those of the core are in the account of docs/MEMORY.md. `count_checked` declares them too: a function that declared them for both and called a closure
-// with them could not promise what the closure leaves of `space`, as both do.
+// Plans a table that has passed its checks. It leaves open what the first 4,608 bytes of the working space then hold,
+// and touches no other. Its arrays are in the account of docs/MEMORY.md; those of `count_checked` are the same.
 pub fn plan_checked(table: Table, labels: &mut [u8], space: &mut [u8]) -> Result<usize, Refusal>
     requires { Checked (lent table) labels.old space.old }
-    ensures labels_after { answering (answer_of result) labels.new ≡ given (best_plan (lent table.entry)) labels.old }
+    ensures labels_after { answering (answer_of result) labels.new
+        ≡ given (best_plan (lent table.entry)) labels.old }
     ensures space_unchanged { drop core_bytes space.new ≡ drop core_bytes space.old }
 {
     let mut arc_starts = [0u16; MAX_ROWS];
@@ -155,8 +156,9 @@ pub fn clear_space(space: &mut [u8])
     space[..SPACE_BYTES].fill(0);
 }
 
-// How many rows the best plan of a checked table hears, with a row more where one is given that has passed its checks too; None without a plan. The table itself stays as
-// it is lent. It leaves open what the first 4,608 bytes of the working space then hold.
+// How many rows the best plan of a checked table hears, with a row more where one is given that has passed its checks
+// too; None without a plan. It leaves open what the first 4,608 bytes of the working space then hold, and touches no
+// other.
 pub fn count_checked(table: Table, more: Option<Row>, space: &mut [u8]) -> Option<usize>
     requires { Countable (lent table) more space.old }
     ensures value { result ≡ count_of (best_plan (with_more (lent table.entry) more)) }

@@ -1,4 +1,5 @@
--- Worked examples of words (request 8 of paper 02): labels as words and back, must words, clash words. And the edges: each refusal, both sides of each limit, and of two faults the one that is reported.
+-- Worked examples of words: labels as words and back, must words, clash words. And the edges: each refusal, both sides
+-- of each limit, and of two faults the one that is reported.
 use Prim.Native.Nat.{ℕ, ◌-◌, ◌^◌}
 use mathlib.Core.Path.{◌≡◌, refl}
 use mathlib.Core.List.{List, [], ◌∷◌}
@@ -34,7 +35,7 @@ thirteen = (refl, refl, refl, refl, refl, refl, refl)
 abbrev Words : List ℕ → Outcome → ℕ → ℕ → ℕ → Type 0
 Words labels refusal count heard receiver = words_call labels ≡ label_words refusal count heard receiver
 
--- the labels of P2, 1 2 0 1: rows 0, 1 and 3 are heard, row 1 by receiver 2
+-- in the labels 1 2 0 1 rows 0, 1 and 3 are heard, row 1 by receiver 2
 pub words :
     Words [] Accepted 0 0 0
     × Words (0 ∷ []) Accepted 0 0 0
@@ -54,7 +55,7 @@ pub many :
 unfolding words_call
 many = (refl, refl, refl)
 
--- "A label above 2 .. 9, after 2 for over 64 rows"
+-- a label above 2 is refused 9, more than 64 labels are refused 2 whatever they are
 pub words_refused :
     Words (3 ∷ []) NotPlan 0 0 0
     × Words (1 ∷ 2 ∷ 255 ∷ []) NotPlan 0 0 0
@@ -91,7 +92,7 @@ labels = (refl, refl, refl, refl, refl, refl, refl, refl, refl)
 abbrev Left : ℕ → ℕ → ℕ → Outcome → Type 0
 Left n heard receiver refusal = labels_call heard receiver (sevens n) ≡ labels_given (answered refusal 0) (sevens n)
 
--- "a receiver bit of a row not heard, or a one from the row count up"; "after 2 for over 64 rows"
+-- 9 for a receiver bit of a row that is not heard and for a bit from the number of rows on; before it 2
 pub labels_refused :
     Left 1 0 1 NotPlan
     × Left 4 13 2 NotPlan
@@ -108,7 +109,7 @@ labels_refused = (refl, refl, refl, refl, refl, refl, refl, refl, refl, refl)
 
 -- ---- marks
 
--- "the must bit is 1 for marks 1, 3 and 5", and for no other: marks above 5 are checked elsewhere
+-- the must bit is 1 for the marks 1, 3 and 5, and for no other: marks above 5 are not refused here
 pub musts :
     (must_call [] ≡ must_word Accepted 0)
     × (must_call (1 ∷ []) ≡ must_word Accepted 1)
@@ -124,26 +125,25 @@ musts = (refl, refl, refl, refl, refl)
 abbrev Clashes : Kind → ℕ → ℕ → List Row → List ℕ → List ℕ → Outcome → Type 0
 Clashes kind R g rows before words refusal = clash_call (windows_of (setting_of kind R g no_hours) (starts_of rows) (ends_of rows)) before ≡ clash_given refusal words
 
--- P2 of paper 01
-abbrev p2 : List Row
-p2 = row 10 30 0 ∷ row 20 40 0 ∷ row 25 50 0 ∷ row 90 10 0 ∷ []
+-- rows 0, 1 and 2 overlap one another
+abbrev three_deep : List Row
+three_deep = row 10 30 0 ∷ row 20 40 0 ∷ row 25 50 0 ∷ row 90 10 0 ∷ []
 
--- "the other rows whose windows overlap its own or lie fewer than g ticks from it": in P2 rows 0, 1 and 2 overlap; from the end of row 3 to the starts of rows 0, 1 and 2 there are 0, 10 and
--- 15 ticks, round the circle
+-- in `three_deep` there are 0, 10 and 15 ticks from the end of row 3 to the starts of rows 0, 1 and 2, round the circle
 pub clashing :
     Clashes Round 100 0 [] [] [] Accepted
     × Clashes Round 100 0 (row 7 7 0 ∷ []) (9 ∷ []) (0 ∷ []) Accepted
-    × Clashes Round 100 0 p2 (sevens 4) (6 ∷ 5 ∷ 3 ∷ 0 ∷ []) Accepted
-    × Clashes Round 100 1 p2 (sevens 4) (14 ∷ 5 ∷ 3 ∷ 1 ∷ []) Accepted
-    × Clashes Round 100 10 p2 (sevens 4) (14 ∷ 5 ∷ 3 ∷ 1 ∷ []) Accepted
-    × Clashes Round 100 11 p2 (sevens 4) (14 ∷ 13 ∷ 3 ∷ 3 ∷ []) Accepted
-    × Clashes Round 100 16 p2 (sevens 4) (14 ∷ 13 ∷ 11 ∷ 7 ∷ []) Accepted
+    × Clashes Round 100 0 three_deep (sevens 4) (6 ∷ 5 ∷ 3 ∷ 0 ∷ []) Accepted
+    × Clashes Round 100 1 three_deep (sevens 4) (14 ∷ 5 ∷ 3 ∷ 1 ∷ []) Accepted
+    × Clashes Round 100 10 three_deep (sevens 4) (14 ∷ 5 ∷ 3 ∷ 1 ∷ []) Accepted
+    × Clashes Round 100 11 three_deep (sevens 4) (14 ∷ 13 ∷ 3 ∷ 3 ∷ []) Accepted
+    × Clashes Round 100 16 three_deep (sevens 4) (14 ∷ 13 ∷ 11 ∷ 7 ∷ []) Accepted
     × Clashes Round 10 0 (row 8 2 0 ∷ row 2 8 0 ∷ row 5 5 0 ∷ []) (sevens 3) (4 ∷ 4 ∷ 3 ∷ []) Accepted
     × Clashes Round 10 0 (row 4 5 0 ∷ row 4 5 0 ∷ row 4 5 0 ∷ []) (sevens 3) (6 ∷ 5 ∷ 3 ∷ []) Accepted
 unfolding clash_call
 clashing = (refl, refl, refl, refl, refl, refl, refl, refl, refl)
 
--- in a run no gap is counted over the end; "end R in a run (taken)"
+-- in a run no gap is counted over the end, and a window may end at R
 pub clashing_run :
     Clashes Run 100 0 (row 0 10 0 ∷ row 10 20 0 ∷ row 15 30 0 ∷ row 90 100 0 ∷ []) (sevens 4) (0 ∷ 4 ∷ 2 ∷ 0 ∷ []) Accepted
     × Clashes Run 100 1 (row 0 10 0 ∷ row 10 20 0 ∷ row 15 30 0 ∷ row 90 100 0 ∷ []) (sevens 4) (2 ∷ 5 ∷ 2 ∷ 0 ∷ []) Accepted

@@ -64,7 +64,7 @@ below_more true n h e = omega (arith, pow-suc 2 n, ap (λ (k : ℕ). 2 ^ k) (add
 below_more false n h e = omega (arith, pow-suc 2 n, ap (λ (k : ℕ). 2 ^ k) (add-one n))
 
 module _ (test : ℕ → Bool) where
-  -- "In every word the bits from the row count up are zero": it is below 2 to the row count
+  -- from the number of rows on every bit is 0: the word is below 2 to that number
   pub word_below : (n : ℕ) → word_of n test < 2 ^ n
   unfolding word_of
   word_below zero = omega arith
@@ -73,7 +73,7 @@ module _ (test : ℕ → Bool) where
   pub word_above : (n i : ℕ) → n ≤ i → bit (word_of n test) i ≡ 0
   word_above n i h = bit_none i (word_below n) h
 
-  -- "bit i for row i"
+  -- bit i is that of row i
   pub word_bit : (n i : ℕ) → i < n → bit (word_of n test) i ≡ cond (test i) 1 0
   unfolding word_of
   word_bit zero i h = absurd (omega arith)

@@ -1,4 +1,5 @@
--- Which labels and words can be carried, that words and lists carry the same labels, and that the number heard is the number of ones.
+-- Which labels and words can be carried, that words and lists carry the same labels, and that the number heard is the
+-- number of ones.
 use Prim.Native.Nat.{ℕ, zero, suc, ◌+◌, ◌^◌, ◌≤◌, ◌<◌, min}
 use mathlib.Core.Path.{◌≡◌, refl, sym, ap, ap₂, ◌∙◌, subst}
 use mathlib.Core.Logic.Iff
@@ -53,9 +54,9 @@ all_labels (x ∷ labels) = ap (λ (b : Bool). leb x 2 && b) (all_labels labels)
 
 -- words that can be carried by so many rows
 pub record Carried (rows heard receiver : ℕ) : Type 0 where
-  -- no "receiver bit of a row not heard"
+  -- no receiver bit of a row that is not heard
   pub receiver_heard : (i : ℕ) → bit receiver i ≡ 1 → bit heard i ≡ 1
-  -- no "one from the row count up"
+  -- no bit from the number of rows on
   pub heard_none : (i : ℕ) → rows ≤ i → bit heard i ≡ 0
   pub receiver_none : (i : ℕ) → rows ≤ i → bit receiver i ≡ 0
 
@@ -230,7 +231,7 @@ module _ (rows heard receiver : ℕ) where
       go false true f = absurd (false≢true (f refl))
       go false false f = refl
 
--- ---- "The number heard is the number of ones"
+-- ---- the number heard is the number of ones
 
 -- how many labels are not 0
 unfoldable pub not_zero : List ℕ → ℕ

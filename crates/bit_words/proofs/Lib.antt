@@ -3,5 +3,5 @@ pub mod BitLaws
 pub mod Carrying
 pub mod Clashing
 pub mod Answering
-pub mod Request8
+pub mod Laws
 pub mod Bench

@@ -1,5 +1,5 @@
--- Believed: Clash words (request 8 of paper 02): "for each row a word of the other rows whose windows overlap its own or lie fewer than g ticks from it, whatever the marks and hours",
--- and what a call gives, whole, on every input.
+-- Believed: Clash words: for each row a word of the other rows whose windows overlap its own or have fewer than g ticks
+-- between them; and what a call gives, whole, on every input (docs/RULES.md, Words).
 use Rattle.std.specs.Prelude.{ℕ, ◌<◌, ◌≡◌, ◌≢◌, ◌↔◌, Bool, cond, not, ◌&&◌, List, eqb, length, replicate}
 use Rattle.basics.specs.Lists.{at, list_of}
 use Rattle.refusals.specs.Refusals.{passes, ◌then◌, Outcome}
@@ -8,13 +8,15 @@ use Rattle.table.specs.Tables.{Table, table, rows, row_at, Clash, clashes}
 use Rattle.table.specs.Checks.{lengths_refusal, ticks_refusal, gap_refusal, rows_looked}
 use Rattle.bit_words.specs.Bits.{bit, word_of}
 
--- windows alone, lent as starts and ends: a table in which each row may be heard. "Whatever the marks and hours": with others the words are the same (`any_marks`, `any_hours`, proofs/Request8.antt)
+-- windows alone, lent as starts and ends: a table in which each row may be heard. With other marks and hours the words
+-- are the same (`any_marks`, `any_hours`, proofs/Laws.antt).
 abbrev pub windows_of : Setting → List ℕ → List ℕ → Table
 windows_of S starts ends = table S starts ends (replicate (length starts) 0)
 
 -- ---- the meaning
 
--- bit j of row i's word is 1 exactly if i and j are "other rows" whose windows overlap or have fewer than g ticks between them; "the bits from the row count up are zero"
+-- bit j of row i's word is 1 exactly if j is another row of the table and the two clash; so from the number of rows on
+-- every bit is 0
 pub record ClashWords (t : Table) (words : List ℕ) : Type 0 where
   pub each : length words ≡ rows t
   pub bits : (i j : ℕ) → i < rows t → (bit (at words i) j ≡ 1) ↔ ((j < rows t) × (i ≢ j) × Clash t.setting (row_at t i) (row_at t j))
@@ -26,7 +28,7 @@ unfoldable pub is_clash : Table → ℕ → ℕ → Bool
 unfolding clashes
 is_clash t i j = not (eqb i j) && clashes t.setting (row_at t i) (row_at t j)
 
--- the word of row i, "with bit i for row i"
+-- the word of row i, with a bit for each row
 unfoldable pub clash_word : Table → ℕ → ℕ
 unfolding word_of is_clash
 clash_word t i = word_of (rows t) (is_clash t i)

@@ -1,4 +1,5 @@
--- Believed: Labels and marks as words (request 8 of paper 02): which bit says what, and what each call gives, whole, on every input.
+-- Believed: Labels and marks as words: which bit says what, and what each call gives, whole, on every input
+-- (docs/RULES.md, Words).
 use Rattle.std.specs.Prelude.{ℕ, Bool, cond, not, ◌&&◌, List, leb, eqb, length, Result, Ok, Err}
 use Rattle.std.specs.Int.Count.{ones}
 use Rattle.basics.specs.Limits.{max_rows}
@@ -19,24 +20,24 @@ pub data Word : Type 0 where
   Receiver : Word
   Must : Word
 
--- "Keep heard, receiver and must as 64-bit words": whether a word's bit is 1 for a row with this label or, in the must word, this mark. "The receiver bit is 1 for receiver 2, and 0
--- for a row not heard; the must bit is 1 for marks 1, 3 and 5."
+-- whether a word's bit is 1 for a row with this label or, in the must word, this mark: the heard bit for a row that is
+-- heard, the receiver bit for one that receiver 2 hears, the must bit for a mark that says must
 abbrev pub tells : Word → ℕ → Bool
 tells Heard label = not (eqb label 0)
 tells Receiver label = eqb label 2
 tells Must mark = is_must mark
 
--- "bit i for row i", from a list with a label or a mark for each row
+-- the word that is made of a list with a label or a mark for each row
 abbrev pub word_for : Word → List ℕ → ℕ
 word_for word entries = word_of (length entries) (λ i. tells word (at entries i))
 
 -- ---- from labels to words
 
--- "A label above 2 .. can't be carried"
+-- every label is 0, 1 or 2
 abbrev pub are_labels : List ℕ → Bool
 are_labels labels = every (length labels) (λ i. leb (at labels i) 2)
 
--- "9, after 2 for over 64 rows"
+-- 2 for more than 64 rows, then 9 for a label above 2
 unfoldable pub labels_refusal : List ℕ → Outcome
 unfolding every
 labels_refusal labels = asked (leb (length labels) max_rows) Rows then asked (are_labels labels) NotPlan
@@ -51,12 +52,12 @@ pub record LabelWords : Type 0 where
 abbrev pub label_words : Outcome → ℕ → ℕ → ℕ → LabelWords
 label_words refusal count heard receiver = record { refusal = refusal; count = count; heard = heard; receiver = receiver }
 
--- what a call reports that gives the words or a refusal; "The number heard is the number of ones"
+-- what a call reports that gives the words or a refusal; the number heard is the number of ones of the heard word
 abbrev pub words_given : Result Made Refusal → LabelWords
 words_given (Ok w) = label_words Accepted (ones w.heard) w.heard w.receiver
 words_given (Err r) = label_words (Err r) 0 0 0
 
--- THE RIGHT ANSWER of a call that makes words of labels: the number heard and the two words; a refusal "gives words of 0"
+-- THE RIGHT ANSWER of a call that makes words of labels: the number heard and the two words; a refusal gives words of 0
 unfoldable pub words_call : List ℕ → LabelWords
 unfolding labels_refusal heard word_of
 words_call labels =
@@ -66,18 +67,18 @@ words_call labels =
 
 -- ---- from words to labels
 
--- a row's label, from its two bits: "0 not heard, 1 or 2 the receiver"
+-- a row's label, from its two bits: 0 for a row that is not heard, else the number of the receiver
 abbrev pub label_by : Bool → Bool → ℕ
 label_by heard receiver = cond heard (cond receiver 2 1) 0
 
--- "a receiver bit of a row not heard, or a one from the row count up can't be carried"
+-- words that so many rows can carry: no receiver bit of a row that is not heard, and no bit from the number of rows on
 unfoldable pub are_words : ℕ → ℕ → ℕ → Bool
 unfolding every
 are_words rows heard receiver =
     every word_bits
     (λ i. (is_set receiver i ⇒ is_set heard i) && (leb rows i ⇒ (not (is_set heard i) && not (is_set receiver i))))
 
--- "9, after 2 for over 64 rows"
+-- 2 for more than 64 rows, then 9 for words that they cannot carry
 unfoldable pub words_refusal : ℕ → ℕ → ℕ → Outcome
 unfolding are_words
 words_refusal rows heard receiver = asked (leb rows max_rows) Rows then asked (are_words rows heard receiver) NotPlan
@@ -95,7 +96,8 @@ pub record LabelsCalled : Type 0 where
 abbrev pub labels_given : Answer → List ℕ → LabelsCalled
 labels_given answer labels = record { answer = answer; labels = labels }
 
--- THE RIGHT ANSWER of a call that makes labels of words, for a label list that held `before`, a place for each row: the number heard and the labels; a refusal "writes nothing"
+-- THE RIGHT ANSWER of a call that makes labels of words, for a label list that held `before`, a place for each row: the
+-- number heard and the labels; a refusal writes nothing
 unfoldable pub labels_call : ℕ → ℕ → List ℕ → LabelsCalled
 unfolding words_refusal labels_from heard
 labels_call heard' receiver before =
@@ -118,7 +120,7 @@ abbrev pub must_given : Result ℕ Refusal → MustWord
 must_given (Ok w) = must_word Accepted w
 must_given (Err r) = must_word (Err r) 0
 
--- THE RIGHT ANSWER of a call that makes the must word of marks: "2 for over 64 rows", with a word of 0. "Marks are not converted back."
+-- THE RIGHT ANSWER of a call that makes the must word of marks; 2 for more than 64 rows, with a word of 0
 unfoldable pub must_call : List ℕ → MustWord
 unfolding word_of
 must_call marks =

@@ -4,7 +4,7 @@ ghost use Rattle.std.specs.Int.Count.{ones};
 ghost use Rattle.bit_words.specs.Bits.{word_bits, is_set};
 ghost use Rattle.bit_words.specs.Lent.{BitAbove, WordBy};
 
-// "64-bit words".
+// How many bits a word has.
 const WORD_BITS: usize = 64;
 
 // A word with bit i set where it is asked for. The word has no bit from i on.

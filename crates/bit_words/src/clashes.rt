@@ -1,4 +1,5 @@
-// Clash words: for each row a word of the other rows whose windows overlap its own or have fewer than g ticks between them.
+// Clash words: for each row a word of the other rows whose windows overlap its own or have fewer than g ticks between
+// them.
 ghost use Rattle.std.specs.Prelude.{◌≡◌, ◌≤◌, ◌<◌, length};
 ghost use Rattle.basics.specs.Limits.{max_rows};
 ghost use Rattle.refusals.specs.Refusals.{Accepted};
@@ -68,7 +69,8 @@ fn set_words(table: Table, words: &mut [u64])
     }
 }
 
-// THE CLASH WORDS of windows, into a list with a place for each row: what the definition `clash_call` yields, on every input. Hours are neither checked nor used.
+// THE CLASH WORDS of windows, into a list with a place for each row: what the definition `clash_call` yields, on every
+// input. Hours are neither checked nor used.
 #[tactic(auto, unfolding(crate::specs::Clashes::clash_call, crate::specs::Clashes::clash_refusal))]
 pub fn clash_words(
     setting: Setting,
@@ -76,8 +78,10 @@ pub fn clash_words(
     ends: &[u16],
     words: &mut [u64],
 ) -> Result<(), Refusal>
-    ensures computed { clash_given result words.new ≡ clash_call (windows_of setting starts.now ends.now) words.old }
-    ensures meaning { result ≡ Accepted → ClashWords (windows_of setting starts.now ends.now) words.new }
+    ensures computed { clash_given result words.new
+        ≡ clash_call (windows_of setting starts.now ends.now) words.old }
+    ensures meaning { result ≡ Accepted
+        → ClashWords (windows_of setting starts.now ends.now) words.new }
 {
     checks::check_lists(starts.len(), ends.len(), starts.len(), words.len())?;
     let table = windows(setting, starts, ends);

@@ -1,4 +1,5 @@
-// One bit per row (request 8 of paper 02): labels as a heard and a receiver word and back, marks as a must word, and for each row a word of the rows that clash with it.
+// One bit per row: labels as a heard and a receiver word and back, marks as a must word, and for each row a word of
+// the rows that clash with it (docs/RULES.md, Words).
 #![tactic(auto)]
 
 ghost use Rattle.std.specs.Prelude.{◌≡◌, ◌≤◌, ◌<◌, length};
@@ -72,7 +73,8 @@ fn are_labels(labels: &[u8]) -> bool
     labels.iter().all(|label| *label <= 2)
 }
 
-// THE WORDS OF LABELS: what the definition `words_call` yields, on every input. The number heard is the number of ones of the heard word.
+// THE WORDS OF LABELS: what the definition `words_call` yields, on every input. The number heard is the number of ones
+// of the heard word.
 #[tactic(auto, using(crate::proofs::Answering::words_ones), unfolding(crate::specs::Words::words_call, crate::specs::Words::labels_refusal))]
 pub fn words_of(labels: &[u8]) -> Result<LabelWords, Refusal>
     ensures { words_given result ≡ words_call labels.now }
@@ -101,7 +103,8 @@ fn set_labels(words: LabelWords, labels: &mut [u8])
 // THE LABELS OF WORDS, a place for each row: what the definition `labels_call` yields, on every input.
 #[tactic(auto, using(crate::proofs::Answering::labels_ones), unfolding(crate::specs::Words::labels_call, crate::specs::Words::words_refusal))]
 pub fn labels_of(words: LabelWords, labels: &mut [u8]) -> Result<usize, Refusal>
-    ensures { labels_given (answer_of result) labels.new ≡ labels_call words.heard words.receiver labels.old }
+    ensures { labels_given (answer_of result) labels.new
+        ≡ labels_call words.heard words.receiver labels.old }
 {
     check_rows(labels.len())?;
     if !words.fit(labels.len()) {

@@ -1,4 +1,5 @@
--- What the parts of a call report is what `candidates_call` yields: a refusal changes nothing, and the working space is cleared where planning the table clears it.
+-- What the parts of a call report is what `candidates_call` yields: a refusal changes nothing, and the working space is
+-- cleared where planning the table clears it.
 use Prim.Native.Nat.{ℕ, ◌+◌, ◌≤◌}
 use mathlib.Core.Path.{◌≡◌, refl, sym, ap, ◌∙◌}
 use mathlib.Core.Bool.{Bool, true, false, cond, not, ◌&&◌}
@@ -7,9 +8,8 @@ use mathlib.Core.Option.{Option, none, some}
 use native.Mathlib.Omega.{arith}
 use lib.Dec.{leb, eqb}
 use lib.ListN.{length}
-use borrow.Author.Tests.{eq-eqb, ne_eqb, eqb-true, leb-true}
+use borrow.Author.Tests.{eq-eqb, ne_eqb, leb-true}
 use Rattle.std.specs.Prelude.{Option as Maybe, Some, None, is_some, is_err}
-use Rattle.basics.specs.Limits.{max_rows}
 use Rattle.std.proofs.lemmas.Bool.Decides.{Decides-eqb}
 use Rattle.basics.proofs.Tests.{leb_iff, and_iff}
 use Rattle.refusals.specs.Refusals.{number_of, passes, ◌then◌, Accepted, Space, NoPlan, Candidates, Outcome}
@@ -21,8 +21,9 @@ use Rattle.table.specs.Planned.{space_bytes, space_refusal, best_plan, given, pl
 use Rattle.table.proofs.Checked.{Not8, asked_8, lists_8, lists_passed, table_8, table_looked_rows}
 use Rattle.table.proofs.Calls.{space_kept}
 use Rattle.best_plan.specs.Rows.{count_of}
-use Rattle.candidates.specs.Tried.{max_candidates, CandidateLists, size, numbers_tried, counts_tried, candidates_refusal, answers_refusal, table_refusal, lent_refusal, rows_with, table_tried, reported, CandidatesCalled, called, answers, candidates_call}
-use Rattle.candidates.specs.Lent.{CandidatesLent, TableLent, read_beside}
+use Rattle.candidates.specs.Tried.{max_candidates, CandidateLists, size, numbers_tried, counts_tried, candidates_refusal, answers_refusal, table_refusal, lent_refusal, candidates_visit, Visit, ends_in, table_visit, visit, report, CandidatesCalled, called, answers, candidates_call}
+use Rattle.candidates.specs.Lent.{CandidatesLent, TableLent}
+use Rattle.candidates.proofs.Visiting.{rows_with, table_tried, rows_visited, table_reported, visits_first}
 
 -- ---- what is reported of the table
 
@@ -75,21 +76,6 @@ module _ (t : Table) (c : CandidateLists) where
     pub table_taken : (count_of (best_plan t) ≡ None → ⊥) → table_tried t c ≡ looked Accepted (rows_with t c)
     table_taken n = planning_reported ∙ ap (λ r. looked r (cond (passes r) (rows_with t c) (rows t))) (plan_some n)
 
-  -- the rows of the table and the candidates that are read
-  pub rows_read : rows t + read_beside t c ≡ rows_with t c
-  rows_read = go (eqb (rows t) max_rows) refl
-    where
-      go : (x : Bool) → eqb (rows t) max_rows ≡ x → rows t + cond x 0 (size c) ≡ cond x max_rows (rows t + size c)
-      go true e = omega (arith, eqb-true (rows t) max_rows e)
-      go false e = refl
-
-  pub read_most : read_beside t c ≤ size c
-  read_most = go (eqb (rows t) max_rows)
-    where
-      go : (x : Bool) → cond x 0 (size c) ≤ size c
-      go true = omega arith
-      go false = omega arith
-
 -- ---- what a call gives
 
 module _ (t : Table) (c : CandidateLists) (numbers counts space : List ℕ) where
@@ -116,25 +102,29 @@ module _ (t : Table) (c : CandidateLists) (numbers counts space : List ℕ) wher
   accepted_so n a b s = λ i. called (looked Accepted n) (a i) (b i) (s i)
 
   -- from what checking the table gave
-  module _ {l : Looked} (e : l ≡ table_looked t) where
-    pub stopped : is_err l.refusal ≡ true → called l numbers counts space ≡ gives (table_tried t c)
+  module _ (known : TableLent t space) {l : Looked} (e : l ≡ table_looked t) where
+    -- what the table ends in, case by case, is what visiting it ends in
+    visited : gives (table_tried t c) ≡ gives (report (table_visit t c))
+    visited = ap gives (sym (table_reported t c known.each_end known.each_mark))
+
+    pub stopped : is_err l.refusal ≡ true → called l numbers counts space ≡ gives (report (table_visit t c))
     stopped k =
         let n : number_of (table_looked t).refusal ≡ 0 → ⊥ = λ z. err_refuses l.refusal k (ap (λ (x : Looked). number_of x.refusal) e ∙ z) in
-        ap (λ x. called x numbers counts space) e ∙ refused_so (table_looked t) n (table_8 t) ∙ ap gives (sym (table_stops t c n))
+        ap (λ x. called x numbers counts space) e ∙ refused_so (table_looked t) n (table_8 t) ∙ ap gives (sym (table_stops t c n)) ∙ visited
 
     all : is_err l.refusal ≡ false → l.rows ≡ rows t
     all k = ap (λ (x : Looked). x.rows) e ∙ table_looked_rows t (checks_passed t e k)
 
     -- and counting for it
     module _ (k : is_err l.refusal ≡ false) {best : Maybe ℕ} (b : best ≡ count_of (best_plan t)) {none_left : Bool} (told : is_some best ≡ not none_left) where
-      pub no_plan_given : none_left ≡ true → {space' : List ℕ} → space' ≡ space_after NoPlan space → called (looked NoPlan l.rows) numbers counts space' ≡ gives (table_tried t c)
-      no_plan_given n s = rw (all k) (no_plan_so (rows t) s ∙ ap gives (sym (table_8_reported t c (checks_passed t e k) (sym b ∙ none_there best (told ∙ ap not n)))))
+      pub no_plan_given : none_left ≡ true → {space' : List ℕ} → space' ≡ space_after NoPlan space → called (looked NoPlan l.rows) numbers counts space' ≡ gives (report (table_visit t c))
+      no_plan_given n s = rw (all k) (no_plan_so (rows t) s ∙ ap gives (sym (table_8_reported t c (checks_passed t e k) (sym b ∙ none_there best (told ∙ ap not n)))) ∙ visited)
 
-      pub all_given : none_left ≡ false → {read : ℕ} → read ≡ read_beside t c → {numbers' counts' space' : List ℕ} → numbers' ≡ numbers_tried t c → counts' ≡ counts_tried t c → space' ≡ space_after Accepted space
-          → called (looked l.refusal (l.rows + read)) numbers' counts' space' ≡ gives (table_tried t c)
+      pub all_given : none_left ≡ false → {read : ℕ} → read ≡ (candidates_visit t c).rows → {numbers' counts' space' : List ℕ} → numbers' ≡ numbers_tried t c → counts' ≡ counts_tried t c → space' ≡ space_after Accepted space
+          → called (looked l.refusal (l.rows + read)) numbers' counts' space' ≡ gives (report (table_visit t c))
       all_given n r x y s =
-          rw (passed_accepted l.refusal (ok_passes l.refusal k), all k, r, rows_read t c)
-          (accepted_so (rows_with t c) x y s ∙ ap gives (sym (table_taken t c (checks_passed t e k) (λ z. some_there best (told ∙ ap not n) (b ∙ z)))))
+          rw (passed_accepted l.refusal (ok_passes l.refusal k), all k, r, rows_visited t c)
+          (accepted_so (rows_with t c) x y s ∙ ap gives (sym (table_taken t c (checks_passed t e k) (λ z. some_there best (told ∙ ap not n) (b ∙ z)))) ∙ visited)
 
   -- ---- the checks of what is lent
 
@@ -158,25 +148,40 @@ module _ (t : Table) (c : CandidateLists) (numbers counts space : List ℕ) wher
       (then_either Not8 (asked_8 (leb space_bytes (length space)) {r = Space} (record { not = λ e. omega arith }))
       (asked_8 (eqb (length c.ends) (size c) && eqb (length c.marks) (size c) && eqb (length numbers) (size c) && eqb (length counts) (size c) && leb (size c) max_candidates) {r = Candidates} (record { not = λ e. omega arith })))
 
+  -- what a call reports is what its visit ends in
+  abbrev visiting : Visit
+  visiting = visit t c (length numbers) (length counts) (length space)
+
   -- a check of what is lent refuses: no row was looked at
   pub lent_refused : {r : Outcome} → r ≡ lent → is_err r ≡ true → called (looked r 0) numbers counts space ≡ candidates_call t c numbers counts space
-  unfolding candidates_call reported
+  unfolding candidates_call visit
   lent_refused {r} e k =
       let m : number_of lent ≡ 0 → ⊥ = λ z. err_refuses r k (ap number_of e ∙ z) in
       ap (λ x. called (looked x 0) numbers counts space) e ∙ refused_so (looked lent 0) m lent_8 ∙ ap gives (sym (go m))
     where
-      go : (number_of lent ≡ 0 → ⊥) → cond (passes lent) (table_tried t c) (looked lent 0) ≡ looked lent 0
+      go : (number_of lent ≡ 0 → ⊥) → report (cond (passes lent) (table_visit t c) (ends_in lent)) ≡ looked lent 0
       go m = rw (ne_eqb (number_of lent) 0 m) refl
 
   pub lent_accepts : {r : Outcome} → r ≡ lent → is_err r ≡ false → Passed lent
   lent_accepts {r} e k = sym (ap number_of e) ∙ ok_passes r k
 
-  pub lent_passed : Passed lent → gives (table_tried t c) ≡ candidates_call t c numbers counts space
-  unfolding candidates_call reported
+  pub lent_passed : Passed lent → gives (report (table_visit t c)) ≡ candidates_call t c numbers counts space
+  unfolding candidates_call visit
   lent_passed p = ap gives (sym go)
     where
-      go : cond (passes lent) (table_tried t c) (looked lent 0) ≡ table_tried t c
+      go : report (cond (passes lent) (table_visit t c) (ends_in lent)) ≡ report (table_visit t c)
       go = rw (eq-eqb (number_of lent) 0 p) refl
+
+  -- the count that a call reports is how many rows were visited
+  pub call_counts : {l : Looked} {numbers' counts' space' : List ℕ} → called l numbers' counts' space' ≡ candidates_call t c numbers counts space → l.rows ≡ length visiting.visited
+  unfolding candidates_call answers
+  call_counts e = ap (λ (x : CandidatesCalled). x.reports.rows) e ∙ go (passes visiting.refusal) ∙ sym (visits_first t c (length numbers) (length counts) (length space)).counted
+    where
+      go : (x : Bool)
+          → (cond x (called (report visiting) (numbers_tried t c) (counts_tried t c) (space_after visiting.refusal space)) (called (report visiting) numbers counts (space_after visiting.refusal space))).reports.rows
+          ≡ visiting.rows
+      go true = refl
+      go false = refl
 
   -- ---- and what they leave known
 

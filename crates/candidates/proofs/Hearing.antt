@@ -1,4 +1,5 @@
--- The plans of the table with a candidate as a row that must be heard are the plans, with its mark as lent, that hear it.
+-- The plans of the table with a candidate as a row that must be heard are the plans, with its mark as lent, that hear
+-- it.
 use Prim.Native.Nat.{ℕ, zero, suc, ◌≤◌, ◌<◌}
 use mathlib.Core.Path.{◌≡◌, sym, subst}
 use mathlib.Core.Logic.{◌≢◌, ◌↔◌, ◌⊎◌, inl, inr}

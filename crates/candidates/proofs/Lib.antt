@@ -1,7 +1,8 @@
 -- Theorems about candidates.
 pub mod Trying
+pub mod Visiting
 pub mod Answering
 pub mod Hearing
-pub mod Request7
-pub mod Request9
+pub mod Laws
+pub mod WorkingSpace
 pub mod Bench

@@ -1,6 +1,8 @@
--- What a candidate is answered, from what the code asks: its row's checks, the count of the longer table, and whether the table is full.
+-- What a candidate is answered, from what the code asks: its row's checks, the count of the longer table, and whether
+-- the table is full.
 use Prim.Native.Nat.{ℕ, ◌≤◌, ◌<◌}
 use mathlib.Core.Path.{◌≡◌, refl, sym, ap, ◌∙◌}
+use mathlib.Core.Logic.{◌⊎◌, inl, inr}
 use mathlib.Core.List.{List, [], ◌∷◌}
 use mathlib.Core.Option.{Option as Maybe, none, some}
 use native.Mathlib.Omega.{arith}
@@ -9,7 +11,7 @@ use borrow.Author.Tests.{eq-eqb, lt-leb}
 use Rattle.basics.specs.Limits.{max_rows}
 use Rattle.marks.proofs.Raising.{raised_within}
 use Rattle.window.specs.declared.Row.{Row}
-use Rattle.std.specs.Prelude.{Option, Result, Ok, Err, IsErrAnd, IfOk, ok_or}
+use Rattle.std.specs.Prelude.{Option, Some, None, Result, Ok, Err, IsErrAnd, IfOk, ok_or}
 use Rattle.refusals.specs.declared.Refusal.{Refusal}
 use Rattle.refusals.specs.declared.Refusal.TheVariants as refusal
 use Rattle.refusals.specs.Refusals.{number_of, ◌then◌, Rows}
@@ -38,7 +40,7 @@ module _ (t : Table) (candidate : Row) where
   unfolding tried planning
   answered_so e = ap (λ (p : Planned). answer (number_of p.answer.refusal) p.answer.count) e
 
-  -- a candidate's "mark is checked as lent and then raised": raised first, it would be refused alike
+  -- a candidate's mark is checked as it is lent and then raised: raised first, it would be refused alike
   pub checked_as_lent : row_refusal t.setting (must_row candidate) ≡ row_refusal t.setting candidate
   unfolding row_refusal
   checked_as_lent = rw (raised_within candidate.mark) refl
@@ -48,17 +50,18 @@ module _ (t : Table) (candidate : Row) where
     unfolding space_refusal
     checks = checked_with t (must_row candidate) p below labels space_bytes (length-replicate (rows (table_with t candidate)) 0) ∙ checked_as_lent
 
-    refused_so : (number_of (row_refusal t.setting candidate) ≡ 0 → ⊥) → tried t candidate ≡ answer (number_of (row_refusal t.setting candidate)) 0
+    -- its own check refuses it
+    pub refused_so : (number_of (row_refusal t.setting candidate) ≡ 0 → ⊥) → tried t candidate ≡ answer (number_of (row_refusal t.setting candidate)) 0
     refused_so n =
         answered_so (planned_refused (table_with t candidate) labels space_bytes (λ z. n (sym (ap number_of checks) ∙ z)))
         ∙ ap (λ r. answer (number_of r) 0) checks
 
-    -- it is refused
+    -- the same, of what the code's check returned
     pub tried_refused : {e : Refusal} → Err e ≡ row_refusal t.setting candidate → (r : Result ℕ Refusal) → IsErrAnd r (λ y. y ≡ e) → told r ≡ tried t candidate
     tried_refused q (Ok n) h = absurd h
     tried_refused {e} q (Err y) h = rw h (ap (λ x. answer (number_of x) 0) q ∙ sym (refused_so (λ z. omega (arith, ap number_of q, (number_within e).0))))
 
-    -- it passes its checks
+    -- its own check passes it
     pub tried_counted : Passed (row_refusal t.setting candidate) → tried t candidate ≡ told (ok_or (count_of (best_plan (table_with t candidate))) refusal.NoPlan)
     unfolding given count_of
     tried_counted q = answered_so (planned_passed (table_with t candidate) labels space_bytes (ap number_of checks ∙ q)) ∙ go (best_plan (table_with t candidate))
@@ -67,7 +70,7 @@ module _ (t : Table) (candidate : Row) where
         go none = refl
         go (some plan) = refl
 
-  -- BESIDE A FULL TABLE it "is given 2 with count 0"
+  -- BESIDE A FULL TABLE it is answered 2 with the count 0
   pub tried_full : length t.ends ≡ rows t → length t.marks ≡ rows t → rows t ≡ max_rows → tried t candidate ≡ answer 2 0
   unfolding checked lengths_refusal
   tried_full e m full =
@@ -85,6 +88,11 @@ module _ (t : Table) (candidate : Row) where
             lt-leb (rows (table_with t candidate)) max_rows (omega arith),
           ) refl)
           (space_refusal space_bytes then (table_looked (table_with t candidate)).refusal) (λ z. omega arith)
+
+-- a candidate that its own check passes is answered 0 or 8
+pub told_number : (o : Option ℕ) → ((told (ok_or o refusal.NoPlan)).number ≡ 0) ⊎ ((told (ok_or o refusal.NoPlan)).number ≡ 8)
+told_number (Some n) = inl refl
+told_number None = inr refl
 
 -- what counting for the longer table is lent
 pub addable : (t : Table) (space : List ℕ) → RowAddable t space → (candidate : Row) → Passed (row_refusal t.setting candidate) → ValidWith t (must_row candidate)

@@ -1,5 +1,5 @@
 -- Inner: What the functions of the crate `candidates` lend each other.
-use Rattle.std.specs.Prelude.{ℕ, ◌≤◌, ◌<◌, ◌≡◌, cond, List, eqb, length, Result, Ok, Err}
+use Rattle.std.specs.Prelude.{ℕ, ◌≤◌, ◌<◌, ◌≡◌, List, length, Result, Ok, Err}
 use Rattle.basics.specs.Limits.{max_rows}
 use Rattle.refusals.specs.declared.Refusal.{Refusal}
 use Rattle.refusals.specs.Numbers.{number}
@@ -38,7 +38,3 @@ pub record RowAddable (t : Table) (space : List ℕ) : Type 0 where
 abbrev pub told : Result ℕ Refusal → Tried
 told (Ok n) = record { number = 0; count = n }
 told (Err e) = record { number = number e; count = 0 }
-
--- how many candidates are read beside the table
-abbrev pub read_beside : Table → CandidateLists → ℕ
-read_beside t c = cond (eqb (rows t) max_rows) 0 (size c)

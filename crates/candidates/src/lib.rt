@@ -1,14 +1,15 @@
-// Candidate windows tried against a table before casting (request 7 of paper 02): each alone, as an added row that must be heard.
-// The lists of answers and the working space are handed on one by one, as C lends them: of a struct of `&mut` lists each contract would also have to say that it lends the
-// same lists, and as long ones.
+// Candidate windows tried against a table: each alone, as an added row that must be heard (docs/RULES.md, Candidates).
+// The lists of answers and the working space are handed on one by one, as C lends them.
 #![tactic(auto)]
 
 ghost use Rattle.std.specs.Prelude.{◌≡◌, ◌<◌, ◌≤◌, IfOk, length, drop, replicate, set};
 ghost use Rattle.basics.specs.Limits.{max_rows};
 ghost use Rattle.line.specs.Cells.{core_bytes};
 ghost use Rattle.table.specs.Tables.{lent};
-ghost use Rattle.candidates.specs.Tried.{must_row, tried, offered, numbers_tried, counts_tried, answers_refusal, lent_refusal, called, table_tried, answers, candidates_call};
-ghost use Rattle.candidates.specs.Lent.{CandidatesLent, TableLent, TablePassed, RowAddable, told, read_beside};
+ghost use Rattle.candidates.specs.Tried.{must_row, tried, offered, numbers_tried, counts_tried};
+ghost use Rattle.candidates.specs.Tried.{answers_refusal, lent_refusal, candidates_visit, table_visit, visit, report};
+ghost use Rattle.candidates.specs.Tried.{called, answers, candidates_call};
+ghost use Rattle.candidates.specs.Lent.{CandidatesLent, TableLent, TablePassed, RowAddable, told};
 
 use basics::MAX_ROWS;
 use best_plan::SPACE_BYTES;
@@ -40,7 +41,8 @@ fn check_lent(
     counts: usize,
     space: usize,
 ) -> Result<(), Refusal>
-    ensures { result ≡ lent_refusal (lent table.entry) (offered candidates.entry) numbers counts space }
+    ensures { result
+        ≡ lent_refusal (lent table.entry) (offered candidates.entry) numbers counts space }
 {
     table.rows.check_lists(table.rows.len())?;
     if space < SPACE_BYTES {
@@ -70,7 +72,8 @@ fn try_row(table: Table, row: Row, space: &mut [u8]) -> Result<usize, Refusal>
     best_plan::count_checked(table, Some(must_row(row)), space).ok_or(Refusal::NoPlan)
 }
 
-// Writes what candidate j is answered into the two lists that C lends: a refusal's number, 0 for accepted, and a count, 0 on a refusal.
+// Writes what candidate j is answered into the two lists that C lends: a refusal's number, 0 for accepted, and a count,
+// 0 on a refusal.
 fn set_answer(tried: Result<usize, Refusal>, j: usize, numbers: &mut [u8], counts: &mut [u8])
     requires few { IfOk tried (λ n. n ≤ max_rows) }
     requires places { (j < length numbers.old) × (j < length counts.old) }
@@ -93,8 +96,10 @@ fn set_answer(tried: Result<usize, Refusal>, j: usize, numbers: &mut [u8], count
 fn try_rows(table: Table, candidates: Rows, numbers: &mut [u8], counts: &mut [u8], space: &mut [u8])
     requires row_addable { RowAddable (lent table) space.old }
     requires candidates_lent { CandidatesLent (offered candidates) numbers.old counts.old }
-    ensures numbers_after { numbers.new ≡ numbers_tried (lent table.entry) (offered candidates.entry) }
-    ensures counts_after { counts.new ≡ counts_tried (lent table.entry) (offered candidates.entry) }
+    ensures numbers_after { numbers.new
+        ≡ numbers_tried (lent table.entry) (offered candidates.entry) }
+    ensures counts_after { counts.new
+        ≡ counts_tried (lent table.entry) (offered candidates.entry) }
     ensures space_unchanged { drop core_bytes space.new ≡ drop core_bytes space.old }
 {
     for j in 0..candidates.len() {
@@ -112,7 +117,7 @@ fn refuse_rows(numbers: &mut [u8], counts: &mut [u8])
     counts.fill(0);
 }
 
-// Answers each candidate, unread where the table is full, and returns how many were looked at.
+// Answers each candidate, and returns how many were looked at: none beside a full table.
 fn answer_rows(
     table: Table,
     candidates: Rows,
@@ -122,9 +127,12 @@ fn answer_rows(
 ) -> usize
     requires table_passed { TablePassed (lent table) space.old }
     requires candidates_lent { CandidatesLent (offered candidates) numbers.old counts.old }
-    ensures value { result ≡ read_beside (lent table.entry) (offered candidates.entry) }
-    ensures numbers_after { numbers.new ≡ numbers_tried (lent table.entry) (offered candidates.entry) }
-    ensures counts_after { counts.new ≡ counts_tried (lent table.entry) (offered candidates.entry) }
+    ensures value { result
+        ≡ (candidates_visit (lent table.entry) (offered candidates.entry)).rows }
+    ensures numbers_after { numbers.new
+        ≡ numbers_tried (lent table.entry) (offered candidates.entry) }
+    ensures counts_after { counts.new
+        ≡ counts_tried (lent table.entry) (offered candidates.entry) }
     ensures space_unchanged { drop core_bytes space.new ≡ drop core_bytes space.old }
 {
     if table.rows.len() == MAX_ROWS {
@@ -145,7 +153,10 @@ fn try_table(
 ) -> Looked
     requires table_lent { TableLent (lent table) space.old }
     requires candidates_lent { CandidatesLent (offered candidates) numbers.old counts.old }
-    ensures { called result numbers.new counts.new space.new ≡ answers (lent table.entry) (offered candidates.entry) (table_tried (lent table.entry) (offered candidates.entry)) numbers.old counts.old space.old }
+    ensures { called result numbers.new counts.new space.new
+        ≡ answers (lent table.entry) (offered candidates.entry)
+        (report (table_visit (lent table.entry) (offered candidates.entry)))
+        numbers.old counts.old space.old }
 {
     let looked = checks::check_table(table);
     if looked.refusal.is_err() {
@@ -167,8 +178,9 @@ fn try_table(
     }
 }
 
-// TRIES EACH CANDIDATE. What a call gives, report, answers and working space, is what the definition `candidates_call` yields, on every input, whatever the lists of
-// answers and the working space held before. Each row of the table and then each candidate is checked once.
+// TRIES EACH CANDIDATE. What a call gives, report, answers and working space, is what the definition `candidates_call`
+// yields, on every input, whatever the lists of answers and the working space held before. The count that it reports
+// is the number of rows visited, in the order of the checks: each row of the table and then each candidate, once.
 pub fn try_each(
     table: Table,
     candidates: Rows,
@@ -176,7 +188,12 @@ pub fn try_each(
     counts: &mut [u8],
     space: &mut [u8],
 ) -> Looked
-    ensures { called result numbers.new counts.new space.new ≡ candidates_call (lent table.entry) (offered candidates.entry) numbers.old counts.old space.old }
+    ensures computed { called result numbers.new counts.new space.new
+        ≡ candidates_call (lent table.entry) (offered candidates.entry)
+        numbers.old counts.old space.old }
+    ensures visited { result.rows
+        ≡ length (visit (lent table.entry) (offered candidates.entry)
+        (length numbers.old) (length counts.old) (length space.old)).visited }
 {
     let refusal = check_lent(table, candidates, numbers.len(), counts.len(), space.len());
     if refusal.is_err() {

@@ -1,4 +1,5 @@
--- The theorems about the reader: it takes exactly the fleet tapes with at most 64 rows and gives back what they state; a fleet tape with more rows it refuses by 2, and any other bytes by 11.
+-- The theorems about the reader: it takes exactly the fleet tapes with at most 64 rows and gives back what they state;
+-- a fleet tape with more rows it refuses by 2, and any other bytes by 11.
 use Prim.Native.Nat.{ℕ, ◌≤◌, ◌<◌}
 use mathlib.Core.Path.{◌≡◌, refl, ap, ◌∙◌, sym}
 use mathlib.Core.Logic.{⊎_elim}
@@ -12,7 +13,7 @@ use lib.ListN.{length, take, drop, length-map}
 use lib.Seq.{take_at}
 use Rattle.std.proofs.lemmas.Bool.{cases_lt}
 use Rattle.basics.specs.Limits.{max_rows, Places, has_places}
-use Rattle.fleet_tape.specs.Demand.{IsFleetTape, rows_given, Stated, Demand2}
+use Rattle.fleet_tape.specs.Reads.{IsFleetTape, rows_given, Stated, ReadsFleetTape}
 use Rattle.window.specs.declared.Kind.{Kind}
 use Rattle.refusals.specs.Refusals.{Outcome, Accepted, Lists, Rows, Form, number_of}
 use Rattle.window.specs.declared.Row.{Row}
@@ -33,14 +34,14 @@ module _ {starts ends marks : List ℕ} (p : Places starts ends marks) where
 
   module _ (kind : Kind) (R : ℕ) (hours : List (List ℕ)) (rows : List Row) (f : Fits R hours rows) where
     -- A fleet tape with at most 64 rows is accepted, and what it states is given back.
-    pub gives_back : length rows ≤ 64 → fleet_read (fleet_tape kind R hours rows) starts ends marks ≡ taken (fleet kind R (hours_in kind hours) rows) starts ends marks
+    pub gives_back : length rows ≤ max_rows → fleet_read (fleet_tape kind R hours rows) starts ends marks ≡ taken (fleet kind R (hours_in kind hours) rows) starts ends marks
     unfolding judged taken
-    gives_back h = placed (fleet_tape kind R hours rows) _ (fleet_back kind R hours rows f) ∙ rw (le-leb (length rows) 64 h)
+    gives_back h = placed (fleet_tape kind R hours rows) _ (fleet_back kind R hours rows f) ∙ rw (le-leb (length rows) max_rows h)
 
     -- A fleet tape with more than 64 rows is refused by 2.
-    pub too_many : 64 < length rows → fleet_read (fleet_tape kind R hours rows) starts ends marks ≡ reading (refused Rows) starts ends marks
+    pub too_many : max_rows < length rows → fleet_read (fleet_tape kind R hours rows) starts ends marks ≡ reading (refused Rows) starts ends marks
     unfolding judged taken
-    too_many h = placed (fleet_tape kind R hours rows) _ (fleet_back kind R hours rows f) ∙ rw (lt-leb (length rows) 64 h)
+    too_many h = placed (fleet_tape kind R hours rows) _ (fleet_back kind R hours rows f) ∙ rw (lt-leb (length rows) max_rows h)
 
   -- Bytes that are no fleet tape are refused by 11.
   pub not_of_form : (tape : List ℕ) → Bytes tape
@@ -72,7 +73,7 @@ abbrev IfAccepted : List ℕ → Reading → Type 0
 IfAccepted tape out = out.report.refusal ≡ Accepted → Stated tape out
 
 module _ (tape starts ends marks : List ℕ) (b : Bytes tape) where
-  taken_stated : (f : Fleet) → FleetStands tape f → length f.rows ≤ 64 → Stated tape (taken f starts ends marks)
+  taken_stated : (f : Fleet) → FleetStands tape f → length f.rows ≤ max_rows → Stated tape (taken f starts ends marks)
   unfolding taken
   taken_stated f r h =
       let e = first_rows_front f.rows starts ends marks in
@@ -83,14 +84,14 @@ module _ (tape starts ends marks : List ℕ) (b : Bytes tape) where
         few = h;
       }
 
-  few_stated : (f : Fleet) → FleetStands tape f → (t : Bool) → leb (length f.rows) 64 ≡ t → IfAccepted tape (cond t (taken f starts ends marks) (reading (refused Rows) starts ends marks))
-  few_stated f r true e a = taken_stated f r (leb-true (length f.rows) 64 e)
+  few_stated : (f : Fleet) → FleetStands tape f → (t : Bool) → leb (length f.rows) max_rows ≡ t → IfAccepted tape (cond t (taken f starts ends marks) (reading (refused Rows) starts ends marks))
+  few_stated f r true e a = taken_stated f r (leb-true (length f.rows) max_rows e)
   few_stated f r false e a = let z : ◌≡◌ {A = ℕ} 2 0 = ap number_of a in absurd (omega arith)
 
   judged_stated : (o : Option Fleet) → FleetKnown tape o → IfAccepted tape (judged o starts ends marks)
   unfolding judged
   judged_stated none r a = let z : ◌≡◌ {A = ℕ} 11 0 = ap number_of a in absurd (omega arith)
-  judged_stated (some f) r a = few_stated f r (leb (length f.rows) 64) refl a
+  judged_stated (some f) r a = few_stated f r (leb (length f.rows) max_rows) refl a
 
   placed_stated : (t : Bool) → IfAccepted tape (cond t (judged (fleet_of tape) starts ends marks) (reading (refused Lists) starts ends marks))
   placed_stated true a = judged_stated (fleet_of tape) (fleet_known tape b) a
@@ -101,7 +102,7 @@ module _ (tape starts ends marks : List ℕ) (b : Bytes tape) where
   unfolding fleet_read
   accepted_only = placed_stated (has_places (length starts) (length ends) (length marks))
 
--- ---- demand 2
+-- ---- what the reader promises
 
 module _ (tape : List ℕ) {starts ends marks : List ℕ} (b : Bytes tape) (p : Places starts ends marks) where
   abbrev out : Reading
@@ -151,8 +152,8 @@ module _ (tape : List ℕ) {starts ends marks : List ℕ} (b : Bytes tape) (p : 
           (λ h. let z = differ e (few_accepted (length f.rows) h t) in absurd (omega arith))
           (cases_lt max_rows (length f.rows))
 
-  pub demand_2 : Demand2 tape (fleet_read tape starts ends marks)
-  demand_2 =
+  pub reads_fleet_tape : ReadsFleetTape tape (fleet_read tape starts ends marks)
+  reads_fleet_tape =
       record {
         takes = (λ e. stated_tape (accepted_only tape starts ends marks b e), λ t. few_accepted t.0 t.1 t.2);
         states = accepted_only tape starts ends marks b;
@@ -167,23 +168,23 @@ module _ (tape : List ℕ) {starts ends marks : List ℕ} (b : Bytes tape) (p : 
           (λ h. let z = differ e (few_accepted n h t) in omega arith)
           (cases_lt max_rows n)
 
--- what the reader gives, said otherwise
-pub demanded : {tape starts ends marks : List ℕ} {r : Reading} → Bytes tape → fleet_read tape starts ends marks ≡ r → Places starts ends marks → Demand2 tape r
-demanded {tape} b e p = rw e at (demand_2 tape b p)
+-- the promise, of what the reader gives
+pub read_said : {tape starts ends marks : List ℕ} {r : Reading} → Bytes tape → fleet_read tape starts ends marks ≡ r → Places starts ends marks → ReadsFleetTape tape r
+read_said {tape} b e p = rw e at (reads_fleet_tape tape b p)
 
--- ---- whatever meets demand 2 answers as the reader does, and reports what the tape states
+-- ---- whatever meets the promise answers as the reader does, and reports and fills in what the tape states
 
-pub only_demanded : (tape : List ℕ) {starts ends marks : List ℕ} → Bytes tape → Places starts ends marks → (out : Reading) → Demand2 tape out
+pub only_answer : (tape : List ℕ) {starts ends marks : List ℕ} → Bytes tape → Places starts ends marks → (out : Reading) → ReadsFleetTape tape out
     → (out.report.refusal ≡ (fleet_read tape starts ends marks).report.refusal)
     × (out.report.refusal ≡ Accepted
     → (fleet_of tape ≡ some (fleet out.report.kind out.report.ticks (hours_in out.report.kind out.report.hours) (rows_given out)))
     × (length (rows_given out) ≡ out.report.rows)
     × (out.report.rows ≤ max_rows))
 unfolding judged taken
-only_demanded tape {starts} {ends} {marks} b p out d = (go (fleet_of tape) (fleet_known tape b) refl, stated)
+only_answer tape {starts} {ends} {marks} b p out d = (go (fleet_of tape) (fleet_known tape b) refl, stated)
   where
-    right : Demand2 tape (fleet_read tape starts ends marks)
-    right = demand_2 tape b p
+    right : ReadsFleetTape tape (fleet_read tape starts ends marks)
+    right = reads_fleet_tape tape b p
 
     go : (o : Option Fleet) → FleetKnown tape o → fleet_of tape ≡ o → out.report.refusal ≡ (fleet_read tape starts ends marks).report.refusal
     go none r q =

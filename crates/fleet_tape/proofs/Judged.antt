@@ -76,12 +76,12 @@ module _ (tape starts ends marks : List ℕ) where
       module _ (rows : List (List ℕ)) (r : RowsOf rest rows) where
         pub read_many : max_rows < length rows → call ≡ reading (refused Rows) starts ends marks
         unfolding fleet_read judged
-        read_many h = rw (p, e, r.read, length-map rows row_of, lt-leb (length rows) 64 h)
+        read_many h = rw (p, e, r.read, length-map rows row_of, lt-leb (length rows) max_rows h)
 
         pub read_taken : length rows ≤ max_rows
             → call ≡ reading (record { refusal = Accepted; kind = kind; ticks = R; hours = hours; rows = length rows }) (front (starts_of (map row_of rows)) starts) (front (ends_of (map row_of rows)) ends) (front (marks_of (map row_of rows)) marks)
         unfolding fleet_read judged taken
-        read_taken h = rw (p, e, r.read, length-map rows row_of, le-leb (length rows) 64 h)
+        read_taken h = rw (p, e, r.read, length-map rows row_of, le-leb (length rows) max_rows h)
 
 -- and those of the lists and the rows
 pub ruleset answers = (read_unplaced, read_headless, read_broken, read_many, read_taken)

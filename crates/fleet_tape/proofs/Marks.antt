@@ -1,5 +1,5 @@
--- The commands of rows and their marks: the range and the difference by which bytes are read agree with the commands by which a tape is defined.
--- One computed test speaks of every command, and one of every mark.
+-- The commands of rows and their marks: the range and the difference by which bytes are read agree with the commands by
+-- which a tape is defined. One computed test speaks of every command, and one of every mark.
 use Prim.Native.Nat.{ℕ, suc, ◌≤◌, ◌<◌}
 use mathlib.Core.Path.{◌≡◌, refl}
 use mathlib.Core.Logic.{◌↔◌}

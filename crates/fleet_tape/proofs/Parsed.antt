@@ -1,4 +1,5 @@
--- The form that is read from bytes is the fleet tape: `fleet_of` of a fleet tape gives back what the tape states, and a tape of which `fleet_of` gives something is the fleet tape of it.
+-- The form that is read from bytes is the fleet tape: `fleet_of` of a fleet tape gives back what the tape states, and a
+-- tape of which `fleet_of` gives something is the fleet tape of it.
 use Prim.Native.Nat.{ℕ, suc, ◌≤◌, ◌<◌}
 use mathlib.Core.Path.{◌≡◌, refl, ap, ◌∙◌}
 use mathlib.Core.Bool.{Bool, true, false, cond, ◌&&◌, and-false}

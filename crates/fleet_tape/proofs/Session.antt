@@ -1,4 +1,5 @@
--- Three fleet tapes written out: the one of paper 01's session, one of a run with a must window (P10 of the bench table), and one with each command of a row (request 2 of paper 02).
+-- Reader calls by computing: a round of four rows, a run with a must window, a tape with each command of a row, and the
+-- refusals in their order.
 use Prim.Native.Nat.{ℕ}
 use mathlib.Core.Path.{◌≡◌, refl}
 use mathlib.Core.List.{List, [], ◌∷◌, ◌++◌}
@@ -10,7 +11,7 @@ use Rattle.fleet_tape.specs.Fleet.{fleet_tape}
 use Rattle.window.specs.Hours.{no_hours}
 use Rattle.fleet_tape.specs.Reading.{Reading, reading, fleet_read}
 
--- "Input: `10 00 64 40 00 0A 00 1E 40 00 14 00 28 40 00 19 00 32 40 00 5A 00 0A 7F`"
+-- a round of 100 ticks and four rows
 abbrev pub session : List ℕ
 session =
     0x10 ∷ 0x00 ∷ 0x64
@@ -60,7 +61,7 @@ pub run_read : fleet_read run before before before
 unfolding fleet_read
 run_read = refl
 
--- "A refusal reports kind round and zeros", and the lists, which hold 7, 8 and 9, are untouched
+-- a refusal reports kind round and zeros, and the lists, which hold 7, 8 and 9, are untouched
 abbrev none : Outcome → ℕ → ℕ → ℕ → Reading
 none r n m l = reading (record { refusal = r; kind = Round; ticks = 0; hours = (0 ∷ 0 ∷ []) ∷ (0 ∷ 0 ∷ []) ∷ []; rows = 0 }) (replicate n 7) (replicate m 8) (replicate l 9)
 
@@ -72,7 +73,8 @@ call tape n m l = fleet_read tape (replicate n 7) (replicate m 8) (replicate l 9
 abbrev many : List ℕ
 many = fleet_tape Round 100 no_hours (replicate 65 (row 1 2 0))
 
--- "Reader's order: 1, 11, 2": a list of other than 64 places, each of them, before bytes that are no tape; no tape before too many rows; 65 rows
+-- The order is 1, 11, 2: a list of other than 64 places, each of them, before bytes that are no tape; no tape before
+-- too many rows; 65 rows.
 pub refusals :
     (call [] 63 64 64 ≡ none Lists 63 64 64)
     × (call [] 64 65 64 ≡ none Lists 64 65 64)
@@ -95,7 +97,7 @@ six first last =
     ∷ last ∷ 0x01 ∷ 0x02 ∷ 0xFF ∷ 0xFE
     ∷ 0x7F ∷ []
 
--- "commands 42 to 45 hexadecimal, laid out as 40, for marks 2 to 5"
+-- the commands 40 to 45 give the marks 0 to 5
 pub six_tape : fleet_tape Round 100 no_hours (row 10 30 0 ∷ row 20 40 1 ∷ row 25 50 2 ∷ row 90 10 3 ∷ row 0 1 4 ∷ row 258 65534 5 ∷ []) ≡ six 0x40 0x45
 unfolding fleet_tape
 six_tape = refl

@@ -1,4 +1,4 @@
--- Believed: What a fleet tape is (paper 01, "Tapes", with the commands of request 2 of paper 02): from kind, R, hours and rows to bytes.
+-- Believed: What a fleet tape is (docs/RULES.md, Fleet tapes): from kind, R, hours and rows to bytes.
 use Rattle.std.specs.Prelude.{ℕ, zero, suc, ◌≤◌, ◌<◌, ◌≡◌, List, [], ◌∷◌, ◌++◌, take}
 use Rattle.window.specs.declared.Kind.{Kind}
 use Rattle.window.specs.declared.Kind.TheVariants.{Round, Run}
@@ -8,7 +8,7 @@ use Rattle.window.specs.Hours.{hour, hours_from}
 use Rattle.tape.specs.Commands.{ROUND, RUN, WINDOW, MUST, WINDOW1, MUST1, WINDOW2, MUST2, HOURS, STOP}
 use Rattle.tape.specs.Words.{word}
 
--- "WINDOW gives mark 0, MUST 1" (paper 01); "commands 42 to 45 .. for marks 2 to 5" (request 2 of paper 02)
+-- the command of a row with the mark: WINDOW for mark 0, MUST for 1, and 42 to 45 (hexadecimal) for 2 to 5
 abbrev pub row_command : ℕ → ℕ
 row_command zero = WINDOW
 row_command (suc zero) = MUST
@@ -17,32 +17,33 @@ row_command (suc (suc (suc zero))) = MUST1
 row_command (suc (suc (suc (suc zero)))) = WINDOW2
 row_command (suc (suc (suc (suc (suc mark))))) = MUST2
 
--- "WINDOW, MUST: start (16), end (16)"; 42 to 45 "laid out as 40"
+-- a row is its command, and its start and end of 16 bits
 abbrev pub row_tape : Row → List ℕ
 row_tape row = row_command row.mark ∷ word row.start ++ word row.end
 
--- "WINDOW and MUST in row order", and 42 to 45 among them
+-- the rows, in their order
 unfoldable pub rows_tape : List Row → List ℕ
 rows_tape [] = []
 rows_tape (row ∷ rows) = row_tape row ++ rows_tape rows
 
--- "HOURS: p1, q1, p2, q2 (16 each)"
+-- HOURS has p and q of receiver 1 and then of receiver 2, of 16 bits each
 abbrev pub hours_tape : List (List ℕ) → List ℕ
-hours_tape hours = HOURS ∷ word (hour hours 0 0) ++ word (hour hours 0 1) ++ word (hour hours 1 0) ++ word (hour hours 1 1)
+hours_tape hours =
+    HOURS ∷ word (hour hours 0 0) ++ word (hour hours 0 1) ++ word (hour hours 1 0) ++ word (hour hours 1 1)
 
--- "ROUND, or RUN and then HOURS"
+-- ROUND with R, or RUN with R and then HOURS
 abbrev pub head_tape : Kind → ℕ → List (List ℕ) → List ℕ
 head_tape Round R hours = ROUND ∷ word R
 head_tape Run R hours = (RUN ∷ word R) ++ hours_tape hours
 
--- "Fleet tape: ROUND, or RUN and then HOURS; WINDOW and MUST in row order; STOP as the last byte."
+-- the head, the rows, and STOP as the last byte
 unfoldable pub fleet_tape : Kind → ℕ → List (List ℕ) → List Row → List ℕ
 unfolding rows_tape
 fleet_tape kind R hours rows = head_tape kind R hours ++ rows_tape rows ++ (STOP ∷ [])
 
 -- ---- what a fleet tape can state
 
--- "start (16), end (16)", and a mark that a command gives: "The mark becomes 0 to 5"
+-- start and end have 16 bits, and the mark is 0 to 5
 pub record RowFits (row : Row) : Type 0 where
   pub start_16 : row.start < 65536
   pub end_16 : row.end < 65536
@@ -52,7 +53,7 @@ abbrev pub RowsFit : List Row → Type 0
 RowsFit [] = Unit {0}
 RowsFit (row ∷ rows) = RowFits row × RowsFit rows
 
--- "the two receivers' open hours are two pairs, from p to q", 16 bits each
+-- the two receivers' open hours are two pairs, from p to q, of 16 bits each
 pub record HoursFit (hours : List (List ℕ)) : Type 0 where
   pub p1 : ℕ
   pub q1 : ℕ

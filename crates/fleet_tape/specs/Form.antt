@@ -1,4 +1,5 @@
--- Believed: The form of a fleet tape, read from its bytes: what a tape of the form states, and nothing of any other bytes.
+-- Believed: The form of a fleet tape, read from its bytes: what a tape of the form states, and nothing of any other
+-- bytes.
 use Rattle.std.specs.Prelude.{ℕ, ◌-◌, Bool, cond, ◌&&◌, List, [], ◌∷◌, leb, eqb}
 use Rattle.std.proofs.Math.Option.{Option, none, some, map}
 use Rattle.window.specs.declared.Kind.{Kind}
@@ -23,7 +24,7 @@ mark_of command = command - WINDOW
 abbrev pub put : Row → Option (List Row) → Option (List Row)
 put row = map (λ rows. row ∷ rows)
 
--- "WINDOW and MUST in row order; STOP as the last byte": a row is a command, 40 to 45, and four bytes, and what is left at the end is STOP alone
+-- bytes are rows and then STOP: a row is a command, 40 to 45, and four bytes, and what is left at the end is STOP alone
 unfoldable pub rows_in : List ℕ → Option (List Row)
 rows_in [] = none
 rows_in (command ∷ []) = cond (eqb command STOP) (some []) none
@@ -49,16 +50,16 @@ abbrev pub stated : Kind → ℕ → List (List ℕ) → Option (List Row) → O
 stated kind R hours none = none
 stated kind R hours (some rows) = some (fleet kind R hours rows)
 
--- "HOURS: p1, q1, p2, q2 (16 each)"
+-- the operands of HOURS, which stands first
 abbrev pub hours_of : List ℕ → List (List ℕ)
 hours_of s = hours_from (word_at s 1) (word_at s 3) (word_at s 5) (word_at s 7)
 
--- "hours (all 0 in a round)"
+-- in a round the hours are all 0
 abbrev pub hours_in : Kind → List (List ℕ) → List (List ℕ)
 hours_in Round hours = no_hours
 hours_in Run hours = hours
 
--- "ROUND, or RUN and then HOURS", and then the rows
+-- ROUND, or RUN and then HOURS, and then the rows
 unfoldable pub fleet_of : List ℕ → Option Fleet
 unfolding rows_in begins operand_bytes
 fleet_of s =

@@ -1,6 +1,7 @@
--- What the contracts of the crate `fleet_tape` cite, and what a reader must believe: the fleet tape, its form and the right answer of a call.
+-- What the contracts of the crate `fleet_tape` cite: the fleet tape, its form, the right answer of a call and what is
+-- promised of it.
 pub mod Fleet
 pub mod Form
 pub mod Scan
 pub mod Reading
-pub mod Demand
+pub mod Reads

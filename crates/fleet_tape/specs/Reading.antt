@@ -1,4 +1,5 @@
--- Believed: The right answer of a call of the fleet tape reader, whole: the report and what the three lists then hold, on every input.
+-- Believed: The right answer of a call of the fleet tape reader, whole: the report and what the three lists then hold,
+-- on every input (docs/RULES.md, Fleet tapes, Refusals).
 use Rattle.std.specs.Prelude.{ℕ, cond, List, leb, length, Result, Ok, Err}
 use Rattle.std.proofs.Math.Option.{Option, none, some}
 use Rattle.basics.specs.Limits.{max_rows, has_places}
@@ -12,7 +13,7 @@ use Rattle.window.specs.Rows.{starts_of, ends_of, marks_of}
 use Rattle.fleet_tape.specs.Form.{Fleet, fleet_of}
 use Rattle.window.specs.Hours.{no_hours}
 
--- what a call reports: accepted or refused, and "kind, R, hours (all 0 in a round) and rows"
+-- what a call reports: accepted or refused, and kind, R, hours, which are all 0 in a round, and how many rows
 pub record Report : Type 0 where
   pub refusal : Outcome
   pub kind : Kind
@@ -30,7 +31,7 @@ pub record Reading : Type 0 where
 abbrev pub reading : Report → List ℕ → List ℕ → List ℕ → Reading
 reading report starts ends marks = record { report = report; starts = starts; ends = ends; marks = marks }
 
--- "A refusal reports kind round and zeros."
+-- a refusal reports kind round and zeros
 abbrev pub refused : Outcome → Report
 refused refusal = record { refusal = refusal; kind = Round; ticks = 0; hours = no_hours; rows = 0 }
 
@@ -39,7 +40,7 @@ abbrev pub report_of : Result told.Report Refusal → Report
 report_of (Ok r) = record { refusal = Accepted; kind = r.kind; ticks = r.ticks; hours = r.hours; rows = r.rows }
 report_of (Err e) = refused (Err e)
 
--- "reports kind, R, hours (all 0 in a round) and rows"
+-- an accepted call reports what the tape states
 abbrev pub accepted : Fleet → Report
 accepted fleet =
     record {
@@ -50,7 +51,7 @@ accepted fleet =
       rows = length fleet.rows;
     }
 
--- "fills starts, ends and marks .. for the rows present, leaves the other places untouched"
+-- and fills starts, ends and marks for the rows present; the other places are untouched
 unfoldable pub taken : Fleet → List ℕ → List ℕ → List ℕ → Reading
 taken fleet starts ends marks =
     reading (accepted fleet)
@@ -58,14 +59,15 @@ taken fleet starts ends marks =
     (front (ends_of fleet.rows) ends)
     (front (marks_of fleet.rows) marks)
 
--- "11: a fleet tape not of the form above"; "2: more than 64 rows"
+-- 11: a tape that is not of the form; 2: more than 64 rows
 unfoldable pub judged : Option Fleet → List ℕ → List ℕ → List ℕ → Reading
 unfolding taken
 judged none starts ends marks = reading (refused Form) starts ends marks
 judged (some fleet) starts ends marks =
     cond (leb (length fleet.rows) max_rows) (taken fleet starts ends marks) (reading (refused Rows) starts ends marks)
 
--- The reader's answer for a tape and three lists. "1: .. for the fleet tape reader, a list has other than 64 places". "Reader's order: 1, 11, 2. The first that applies is reported .. Outputs .. are untouched."
+-- The reader's answer for a tape and three lists, whose places are looked at before the tape. 1: a list has other than
+-- 64 places. So the order is 1, 11, 2; a refused call leaves the lists untouched.
 unfoldable pub fleet_read : List ℕ → List ℕ → List ℕ → List ℕ → Reading
 unfolding judged fleet_of
 fleet_read tape starts ends marks =

@@ -1,4 +1,5 @@
--- Inner: The rows of a tape as pieces of five bytes, and the filling of the lists: what the reader's inner functions promise.
+-- Inner: The rows of a tape as pieces of five bytes, and the filling of the lists: what the reader's inner functions
+-- promise.
 use Rattle.std.specs.Prelude.{ℕ, ◌≤◌, ◌≡◌, Bool, true, List, map, length, get_or}
 use Rattle.std.specs.List.{list_all}
 use Rattle.std.proofs.Math.Option.{some}

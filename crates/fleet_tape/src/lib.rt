@@ -1,4 +1,5 @@
-// The reader of fleet tapes: the form is judged to the end of the tape, and then the lists are filled.
+// The reader of fleet tapes: the form is judged to the end of the tape, and then the lists are filled
+// (docs/RULES.md, Fleet tapes).
 #![tactic(auto)]
 
 ghost use Rattle.std.specs.Prelude.{◌≡◌, true, map, MatchOption};
@@ -7,7 +8,7 @@ ghost use Rattle.tape.specs.Words.{Inside};
 ghost use Rattle.window.specs.Rows.{starts_of, ends_of, marks_of};
 ghost use Rattle.fleet_tape.specs.Form.{hours_of, is_row, mark_of, rows_in, stated, fleet_of};
 ghost use Rattle.fleet_tape.specs.Scan.{all_rows, row_of, RowsOf, Fillable};
-ghost use Rattle.fleet_tape.specs.Demand.{Demand2};
+ghost use Rattle.fleet_tape.specs.Reads.{ReadsFleetTape};
 ghost use Rattle.basics.specs.Limits.{Places};
 ghost use Rattle.fleet_tape.specs.Reading.{report_of, reading, fleet_read};
 ghost use Rattle.basics.specs.Lists.{front};
@@ -17,10 +18,11 @@ use refusals::Refusal;
 use tape::{HOURS, MUST2, OPERAND_BYTES, ROUND, RUN, WINDOW, after, is_stop, word_at};
 use window::Kind;
 
-// The bytes of a row: a command, and its operands as the table of widths has them. Rows of every mark are laid out as WINDOW.
+// The bytes of a row: a command, and its operands as the table of widths has them. Rows of every mark are laid out as
+// WINDOW.
 const ROW_BYTES: usize = 1 + OPERAND_BYTES[WINDOW as usize] as usize;
 
-// What a call reports: "kind, R, hours (all 0 in a round) and rows".
+// What a call reports: kind, R, hours, which are all 0 in a round, and how many rows there are.
 #[derive(Clone, Copy, Debug, PartialEq, Eq)]
 pub struct Report {
     pub kind: Kind,
@@ -29,7 +31,8 @@ pub struct Report {
     pub rows: usize,
 }
 
-// The head of a tape, and the bytes after it. It holds no `Report`, which has the same three: how many rows there are is known only once the rest is read.
+// The head of a tape, and the bytes after it. How many rows there are, which a `Report` has too, is known only once the
+// rest is read.
 #[derive(Clone, Copy)]
 struct Head<'a> {
     kind: Kind,
@@ -52,7 +55,8 @@ fn hours_of(tape: &[u8]) -> [[u16; 2]; 2]
 // Reads ROUND, or RUN and then HOURS.
 #[tactic(auto, using(crate::proofs::Judged::heads))]
 fn head_of(tape: &[u8]) -> Option<Head<'_>>
-    ensures { MatchOption result (fleet_of tape.now ≡ none) (λ h. fleet_of tape.now ≡ stated h.kind h.ticks h.hours (rows_in h.rest.now)) }
+    ensures { MatchOption result (fleet_of tape.now ≡ none)
+        (λ h. fleet_of tape.now ≡ stated h.kind h.ticks h.hours (rows_in h.rest.now)) }
 {
     if let Some(rest) = after(tape, ROUND) {
         return Some(Head {
@@ -121,8 +125,9 @@ fn fill_rows(rows: &[[u8; ROW_BYTES]], starts: &mut [u16], ends: &mut [u16], mar
     }
 }
 
-// THE READER of fleet tapes, into lists of 64 places. "It judges the form alone; the planner judges the values." What a call gives, report and lists, is what the
-// definition `fleet_read` yields, on every input. So, spelled out over paper 01's form: it is as demand 2 asks.
+// THE READER of fleet tapes, into lists of 64 places. It judges the form alone; the planner judges the values. On every
+// input, report and lists are what the definition `fleet_read` yields. Spelled out in `ReadsFleetTape`, by what a fleet
+// tape is: into lists of 64 places it takes just the tapes of the form with up to 64 rows.
 #[tactic(auto, using(crate::proofs::Judged::answers))]
 pub fn read_fleet(
     tape: &[u8],
@@ -130,8 +135,10 @@ pub fn read_fleet(
     ends: &mut [u16],
     marks: &mut [u8],
 ) -> Result<Report, Refusal>
-    ensures read { reading (report_of result) starts.new ends.new marks.new ≡ fleet_read tape.now starts.old ends.old marks.old }
-    ensures demand2 { Places starts.old ends.old marks.old → Demand2 tape.now (reading (report_of result) starts.new ends.new marks.new) }
+    ensures read { reading (report_of result) starts.new ends.new marks.new
+        ≡ fleet_read tape.now starts.old ends.old marks.old }
+    ensures taken { Places starts.old ends.old marks.old
+        → ReadsFleetTape tape.now (reading (report_of result) starts.new ends.new marks.new) }
 {
     if !basics::has_places(starts.len(), ends.len(), marks.len()) {
         return Err(Refusal::Lists);

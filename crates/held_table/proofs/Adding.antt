@@ -1,4 +1,5 @@
--- A row stored after the rows that are held is the longer table at the front of the lists; and it can be taken out again.
+-- A row stored after the rows that are held is the longer table at the front of the lists; and it can be taken out
+-- again.
 use Prim.Native.Nat.{ℕ, suc, ◌+◌, ◌<◌}
 use mathlib.Core.Path.{◌≡◌, refl, sym, ap, ◌∙◌}
 use mathlib.Core.List.{List, [], ◌∷◌, ◌++◌}

@@ -1,4 +1,5 @@
--- What a call gives is what `add_call` and `withdraw_call` say: a refusal of the first checks changes nothing, else the changed rows are planned.
+-- What a call gives is what `add_call` and `withdraw_call` say: a refusal of the first checks changes nothing, else
+-- the changed rows are planned.
 use Prim.Native.Nat.{ℕ}
 use mathlib.Core.Path.{◌≡◌, refl, ap, ◌∙◌}
 use mathlib.Core.Logic.{◌↔◌}

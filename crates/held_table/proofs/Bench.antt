@@ -1,4 +1,5 @@
--- Worked examples of held tables (request 5 of paper 02): calls, and for each the answer and what is then held, every place of every list. And the edges: each refusal, two faults at once, and tables that no call leaves.
+-- Worked examples of held tables: calls, and for each the answer and what is then held, every place of every list.
+-- And the edges: each refusal, two faults at once, and tables that no call leaves.
 use Prim.Native.Nat.{ℕ, ◌-◌}
 use mathlib.Core.Path.{◌≡◌, refl}
 use mathlib.Core.List.{List, [], ◌∷◌, ◌++◌}
@@ -6,14 +7,15 @@ use lib.ListN.{length, replicate}
 use Rattle.basics.specs.Lists.{without}
 use Rattle.window.specs.Rows.{row}
 use Rattle.refusals.specs.Refusals.{answered, Accepted, Lists, Rows, Space, Ticks, Gap, Window, Mark, NoPlan, NoRow, Outcome}
-use Rattle.held_table.specs.Held.{HeldTable, numbers_of, kept, empty, begun, Change, change, added, withdrawn}
-use Rattle.held_table.specs.Came.{HasPlaces, Came, from_begin, from_add, from_withdraw}
+use Rattle.held_table.specs.Held.{HeldTable, numbers_of, kept, held_table, empty, begun, Change, change, added, withdrawn}
+use Rattle.held_table.specs.Came.{HasPlaces, Came, from_begin, from_add, from_withdraw, add_refusal, withdraw_refusal}
 
 -- 64 places that begin so
 abbrev places : List ℕ → ℕ → List ℕ
 places l fill = l ++ replicate (64 - length l) fill
 
--- n rows of a round of R ticks with the gap g, of which the plan hears `count`, in lists that begin so and then hold what no call has stored
+-- n rows of a round of R ticks with the gap g, of which the plan hears `count`, in lists that begin so and then hold
+-- what no call has stored
 abbrev held : ℕ → ℕ → ℕ → ℕ → List ℕ → List ℕ → List ℕ → List ℕ → HeldTable
 held R g n count starts ends marks labels = kept (numbers_of R g n count) (places starts 7777) (places ends 8888) (places marks 77) (places labels 9)
 
@@ -62,7 +64,7 @@ pub withdraws :
 unfolding withdrawn without
 withdraws = (refl, refl, refl, refl)
 
--- "An addition that meets 2, 3, 6, 7 or 8, looked at so .. changes neither table nor plan": each, and the first of two
+-- an addition that meets 3, 6, 7 or 8 changes neither table nor plan: each, and the first of two
 pub add_refusals :
     Refused Space h4 (added h4 (row 60 70 0) 4607)
     × Refused Space h4 (added h4 (row 100 5 9) 4607)
@@ -75,7 +77,7 @@ pub add_refusals :
 unfolding added
 add_refusals = (refl, refl, refl, refl, refl, refl, refl, refl)
 
--- "15, withdrawal of a row not in the table, looked at after 3 and last"
+-- 15 for a row that is not held, which is looked at after 3
 pub withdraw_refusals :
     Refused NoRow h4 (withdrawn h4 4 4608)
     × Refused NoRow h0 (withdrawn h0 0 4608)
@@ -84,7 +86,7 @@ pub withdraw_refusals :
 unfolding withdrawn without
 withdraw_refusals = (refl, refl, refl, refl)
 
--- "begun empty for a round of stated R and g, which 4 and then 14 may refuse (leaving an empty table of R 2, g 0)"
+-- begun empty; a refused begin is looked at for 4 and then 14, and stands for an empty table of R 2 and g 0
 pub begins :
     (begun 2 0 ≡ empty Accepted 2 0)
     × (begun 43200 600 ≡ empty Accepted 43200 600)
@@ -102,7 +104,7 @@ pub gaps :
 unfolding added
 gaps = (refl, refl)
 
--- ---- "held tables that came from these calls"
+-- ---- held tables that came from these calls
 
 begun_places : (R g : ℕ) → HasPlaces (kept (begun R g).numbers (places [] 7777) (places [] 8888) (places [] 77) (places [] 9))
 begun_places R g = record { rows_64 = record { starts_64 = refl; ends_64 = refl; marks_64 = refl }; labels_64 = refl }
@@ -163,6 +165,20 @@ pub rows :
     × Refused NoRow (nines 65) (withdrawn (nines 65) 65 4608)
 unfolding added withdrawn without
 rows = (refl, refl, refl, refl, refl, refl, refl)
+
+-- the orders that are promised of tables that came from the calls: of two faults and more the first, each alone, and none
+pub orders :
+    (add_refusal (held_table (nines 64)) (row 100 5 9) 4607 ≡ Rows)
+    × (add_refusal (held_table h4) (row 100 5 9) 4607 ≡ Space)
+    × (add_refusal (held_table h4) (row 100 5 9) 4608 ≡ Window)
+    × (add_refusal (held_table musts) (row 25 30 6) 4608 ≡ Mark)
+    × (add_refusal (held_table musts) (row 25 30 1) 4608 ≡ NoPlan)
+    × (add_refusal (held_table h4) (row 60 70 0) 4608 ≡ Accepted)
+    × (withdraw_refusal (held_table h4) 4 4607 ≡ Space)
+    × (withdraw_refusal (held_table h4) 4 4608 ≡ NoRow)
+    × (withdraw_refusal (held_table h4) 3 4608 ≡ Accepted)
+unfolding add_refusal withdraw_refusal
+orders = (refl, refl, refl, refl, refl, refl, refl, refl, refl)
 
 -- two rows in a round that is not one; three rows that clash and must be heard, and one that does not
 abbrev bad : ℕ → ℕ → HeldTable

@@ -1,8 +1,8 @@
 -- Theorems about held tables, worked examples, and what the functions' proofs rest on.
 pub mod Bench
-pub mod Request5
+pub mod Laws
 pub mod Sequences
-pub mod Request9
+pub mod WorkingSpace
 pub mod Order
 pub mod Right
 pub mod Answering

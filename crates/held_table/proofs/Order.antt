@@ -1,4 +1,5 @@
--- In which order a change of a right table is refused: what the first checks and the planner look at, told as request 5 tells it; and so what each change keeps.
+-- In which order a change of a right table is refused: what the first checks and the planner look at, in the one
+-- order that is promised; and so what each change keeps.
 use Prim.Native.Nat.{ℕ}
 use mathlib.Core.Path.{◌≡◌, refl, sym, ◌∙◌}
 use mathlib.Core.Bool.{Bool, true, false, cond}
@@ -27,7 +28,7 @@ module _ (h : HeldTable) (right : Right h) (new : Row) (space : ℕ) where
   abbrev t : Table
   t = held_table h
 
-  -- "An addition that meets 2, 3, 6, 7 or 8, looked at so"
+  -- an addition meets 2, 3, 6 and 7 of the new row, and 8, in this order, and nothing else
   add_order : (add_first h then (planned (with_row t new) (take (rows (with_row t new)) h.labels) space).answer.refusal) ≡ add_refusal t new space
   unfolding add_checked add_refusal
   add_order =
@@ -55,7 +56,7 @@ module _ (h : HeldTable) (right : Right h) (new : Row) (space : ℕ) where
 -- ---- a withdrawal
 
 module _ (h : HeldTable) (right : Right h) (k space : ℕ) where
-  -- "15, withdrawal of a row not in the table, looked at after 3 and last": where neither refuses, planning does not
+  -- a withdrawal meets 3 and then 15; where neither refuses, planning does not
   withdraw_order : (withdraw_first h k space then (planned (without_row (held_table h) k) (take (rows (without_row (held_table h) k)) h.labels) space).answer.refusal) ≡ withdraw_refusal (held_table h) k space
   unfolding withdraw_checked withdraw_refusal
   withdraw_order =

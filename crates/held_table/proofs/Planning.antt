@@ -1,4 +1,5 @@
--- What is kept after the changed rows were planned is what `plan_rows` says: the new table with its plan, or after a refusal what was held before.
+-- What is kept after the changed rows were planned is what `plan_rows` says: the new table with its plan, or after a
+-- refusal what was held before.
 use Prim.Native.Nat.{ℕ, ◌≤◌}
 use mathlib.Core.Path.{◌≡◌, sym, ap, ◌∙◌}
 use mathlib.Core.List.{List, ◌++◌}

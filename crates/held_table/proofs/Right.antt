@@ -1,4 +1,5 @@
--- What every held table that came from the calls has, and that each change keeps it: the table has passed its checks, and its best plan is held.
+-- What every held table that came from the calls has, and that each change keeps it: the table has passed its checks,
+-- and its best plan is held.
 use Prim.Native.Nat.{ℕ, ◌≤◌}
 use mathlib.Core.Path.{◌≡◌, refl, sym, ap, ◌∙◌}
 use mathlib.Core.Bool.{Bool, true, false, cond}
@@ -22,7 +23,7 @@ use Rattle.table.proofs.Passing.{lists_pass, table_passes}
 use Rattle.table.proofs.Rivals.{best_plan_iff, planned_passed}
 use Rattle.table.proofs.Calls.{Given, accepted_given, refused_count}
 use Rattle.held_table.specs.Held.{HeldTable, held_table, held_plan, Change, change, holding, taken, changed}
-use Rattle.held_table.specs.Came.{HasPlaces, PlanHeld, Request5}
+use Rattle.held_table.specs.Came.{HasPlaces, PlanHeld, ChangesHeldTable}
 use Rattle.held_table.proofs.Planning.{round}
 
 pub record Right (h : HeldTable) : Type 0 where
@@ -104,9 +105,9 @@ module _ (h : HeldTable) (right : Right h) (t : Table) (same : t.setting ≡ rou
 
   -- ---- a change
 
-  -- what request 5 says of a change that is refused so or makes t, and that what is then held is right
+  -- what is promised of a change that is refused so or makes t, and that what is then held is right
   abbrev pub Kept : Outcome → Change → Type 0
-  Kept r c = Request5 h r t c × Right c.held
+  Kept r c = ChangesHeldTable h r t c × Right c.held
 
   kept_refused : (r : Outcome) (c : Change) → (number_of r ≡ 0 → ⊥) → c ≡ change (answered r 0) h → Kept r c
   kept_refused r c n e =

@@ -1,4 +1,5 @@
--- Any sequence of calls: the held plan after each of them; whatever meets request 5 gives the same; and what the lists held before a begin is gone.
+-- Any sequence of calls: the held plan after each of them; that the promise of a change leaves one answer, table and
+-- plan; and that what the lists held before a begin is gone.
 use Prim.Native.Nat.{ℕ}
 use mathlib.Core.Path.{◌≡◌, refl, sym, ap, subst, ◌∙◌}
 use mathlib.Core.List.{List, [], ◌∷◌}
@@ -12,8 +13,8 @@ use Rattle.table.specs.Tables.{Table, rows}
 use Rattle.table.specs.Planned.{space_bytes, Planned, answering, planned}
 use Rattle.table.specs.Changes.{with_row, without_row}
 use Rattle.held_table.specs.Held.{HeldTable, held_table, held_plan, Change, added, withdrawn}
-use Rattle.held_table.specs.Came.{Came, from_add, from_withdraw, PlanHeld, add_refusal, withdraw_refusal, Request5}
-use Rattle.held_table.proofs.Request5.{came_plan, add_request_5, withdraw_request_5}
+use Rattle.held_table.specs.Came.{Came, from_add, from_withdraw, PlanHeld, add_refusal, withdraw_refusal, ChangesHeldTable}
+use Rattle.held_table.proofs.Laws.{came_plan, adds_row, withdraws_row}
 
 -- ---- any sequence of calls
 
@@ -51,7 +52,7 @@ same_plan {h} {h'} p q e =
     let l : length before ≡ rows (held_table h) = length-take-le h.numbers.rows h.labels (omega (arith, p.places.labels_64, p.each_row, length-take h.numbers.rows h.starts, p.places.rows_64.starts_64)) ∙ sym p.each_row in
     sym (p.plan before space_bytes l (omega arith)) ∙ ap (λ t. planned t before space_bytes) e ∙ q.plan before space_bytes (l ∙ ap rows e) (omega arith)
 
-same_change : {h h' : HeldTable} {r : Outcome} {t : Table} {c c' : Change} → Request5 h r t c → Request5 h' r t c' → held_table h ≡ held_table h'
+same_change : {h h' : HeldTable} {r : Outcome} {t : Table} {c c' : Change} → ChangesHeldTable h r t c → ChangesHeldTable h' r t c' → held_table h ≡ held_table h'
     → (c.answer ≡ c'.answer) × (held_table c.held ≡ held_table c'.held)
 same_change {r = r} {c = c} {c' = c'} a b e = go (ℕ_discrete (number_of r) 0)
   where
@@ -65,21 +66,22 @@ same_change {r = r} {c = c} {c' = c'} a b e = go (ℕ_discrete (number_of r) 0)
       ap (λ (x : Change). held_table x.held) (a.refused n) ∙ e ∙ sym (ap (λ (x : Change). held_table x.held) (b.refused n)),
     )
 
--- WHATEVER MEETS REQUEST 5 gives the same answer, the same table and the same plan.
-pub only_5 : {h : HeldTable} {r : Outcome} {t : Table} {c c' : Change} → Request5 h r t c → Request5 h r t c'
+-- WHATEVER KEEPS THE PROMISE of a change gives the same answer, the same table and the same plan.
+pub one_change : {h : HeldTable} {r : Outcome} {t : Table} {c c' : Change} → ChangesHeldTable h r t c → ChangesHeldTable h r t c'
     → (c.answer ≡ c'.answer) × (held_table c.held ≡ held_table c'.held) × (held_plan c.held ≡ held_plan c'.held)
-only_5 a b = let s = same_change a b refl in (s.0, s.1, ap (λ (p : Planned). p.labels) (same_plan a.plan b.plan s.1))
+one_change a b = let s = same_change a b refl in (s.0, s.1, ap (λ (p : Planned). p.labels) (same_plan a.plan b.plan s.1))
 
 same_done : {h h' : HeldTable} → Came h → Came h' → held_table h ≡ held_table h' → (c : Call)
     → ((done h c).answer ≡ (done h' c).answer) × (held_table (done h c).held ≡ held_table (done h' c).held)
 same_done {h' = h'} p q e (add new space) =
-    same_change (add_request_5 p new space)
-    (subst (λ (t : Table). Request5 h' (add_refusal t new space) (with_row t new) (added h' new space)) (sym e) (add_request_5 q new space)) e
+    same_change (adds_row p new space)
+    (subst (λ (t : Table). ChangesHeldTable h' (add_refusal t new space) (with_row t new) (added h' new space)) (sym e) (adds_row q new space)) e
 same_done {h' = h'} p q e (withdraw k space) =
-    same_change (withdraw_request_5 p k space)
-    (subst (λ (t : Table). Request5 h' (withdraw_refusal t k space) (without_row t k) (withdrawn h' k space)) (sym e) (withdraw_request_5 q k space)) e
+    same_change (withdraws_row p k space)
+    (subst (λ (t : Table). ChangesHeldTable h' (withdraw_refusal t k space) (without_row t k) (withdrawn h' k space)) (sym e) (withdraws_row q k space)) e
 
--- the same calls on two held tables of the same rows give the same answers, the same rows and the same plan, whatever else their lists hold
+-- the same calls on two held tables of the same rows give the same answers, the same rows and the same plan, whatever
+-- else their lists hold
 pub same_calls : {h h' : HeldTable} → Came h → Came h' → held_table h ≡ held_table h' → (calls : List Call) (c : Call)
     → ((done (after h calls) c).answer ≡ (done (after h' calls) c).answer)
     × (held_table (after h calls) ≡ held_table (after h' calls))

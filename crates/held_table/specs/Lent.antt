@@ -29,6 +29,6 @@ pub record RowHeld (h : HeldTable) (k : ℕ) : Type 0 where
   pub below : k < h.numbers.rows
   pub most : h.numbers.rows ≤ max_rows
 
--- what a call gives that has passed its first checks: the table t is planned
+-- what a call gives once its first checks have passed: the table t is planned
 abbrev pub plan_rows : HeldTable → Table → List ℕ → HeldCall
 plan_rows h t space = called (taken h t (planned t (take (rows t) h.labels) (length space))) space

@@ -1,5 +1,5 @@
-// A held table with its plan (request 5 of paper 02): begun empty, a row added at the end, a row withdrawn by number. Its rows and labels lie in four lent lists of 64
-// places, of which the first `rows` count.
+// A held table with its plan (docs/RULES.md, Held table): begun empty, a row added at the end, a row withdrawn by
+// number. Its rows and labels lie in four lent lists of 64 places, of which the first `rows` count.
 #![tactic(auto)]
 
 ghost use Rattle.std.specs.Prelude.{◌≡◌, ◌≤◌, length, take, drop};
@@ -8,7 +8,7 @@ ghost use Rattle.table.specs.Tables.{RowIn, row_of, lent};
 ghost use Rattle.table.specs.Planned.{called, plan_call};
 ghost use Rattle.table.specs.Changes.{with_row, without_row};
 ghost use Rattle.held_table.specs.Held.{held, Same, numbers_of, begun_as, begun, places_refusal, add_first, withdraw_first, held_table, change, gave, add_call, withdraw_call};
-ghost use Rattle.held_table.specs.Came.{Came, AddRequest5, WithdrawRequest5};
+ghost use Rattle.held_table.specs.Came.{Came, AddsRow, WithdrawsRow};
 ghost use Rattle.held_table.specs.Lent.{first_rows, FirstRows, RoomFor, RowHeld, plan_rows};
 
 use basics::MAX_ROWS;
@@ -16,6 +16,12 @@ use best_plan::SPACE_BYTES;
 use refusals::Refusal;
 use table::{Rows, Setting, Table, checks};
 use window::Row;
+
+// R in the numbers that C is given of a refused begin.
+pub const REFUSED_TICKS: u16 = 2;
+
+// g in the numbers that C is given of a refused begin.
+pub const REFUSED_GAP: u16 = 0;
 
 // The numbers of a held table: R and g of its round, how many rows it has, and how many of them its plan hears.
 #[derive(Clone, Copy, Debug, PartialEq, Eq)]
@@ -36,7 +42,7 @@ pub struct Held<'a> {
 }
 
 impl Numbers {
-    // An empty table. A refused begin leaves that of R 2, g 0.
+    // The numbers of an empty table. R and g are not checked here.
     pub fn empty(ticks: u16, gap: u16) -> Numbers
         ensures { result ≡ numbers_of ticks gap 0 0 }
     {
@@ -49,7 +55,9 @@ impl Numbers {
     }
 }
 
-// BEGINS a held table of a round. The table is empty whatever its lists hold: no place of them counts yet.
+// BEGINS a held table of a round: refused 4, then 14. The table is empty whatever its lists hold: no place of them
+// counts yet. An `Err` has no numbers. The definition `begun` gives it those of an empty table, R 2 and g 0, which C is
+// handed by `hub_held_begin`.
 #[tactic(auto, unfolding(crate::specs::Held::begun))]
 pub fn begin(ticks: u16, gap: u16) -> Result<Numbers, Refusal>
     ensures { begun_as result ≡ begun ticks gap }
@@ -59,7 +67,7 @@ pub fn begin(ticks: u16, gap: u16) -> Result<Numbers, Refusal>
     Ok(Numbers::empty(ticks, gap))
 }
 
-// That the lists stay the same is said in each contract of a change: it is a relation of before and after, which no field can state.
+// Each contract of a change says that the lists stay the same ones: no field can say that of before and after.
 // Labels and working space are parameters, as they are of the planner, to which they are handed on.
 impl<'a> Held<'a> {
     // Row i, or what its place holds.
@@ -89,7 +97,7 @@ impl<'a> Held<'a> {
         Table { setting, rows }
     }
 
-    // Check 1; the list of labels has so many places.
+    // Check 1: each of the four lists has 64 places. The list of labels has `labels` of them.
     #[tactic(auto, unfolding(crate::specs::Held::places_refusal))]
     fn check_places(&self, labels: usize) -> Result<(), Refusal>
         ensures { result ≡ places_refusal (length self.now.starts.now) (length self.now.ends.now) (length self.now.marks.now) labels }
@@ -102,7 +110,7 @@ impl<'a> Held<'a> {
         Ok(())
     }
 
-    // Checks 1 and 2 of an addition.
+    // Checks 1 and 2 of an addition: lists of 64 places, and a place for the row.
     #[tactic(auto, unfolding(crate::specs::Held::add_checked))]
     fn check_add(&self, labels: &[u8]) -> Result<(), Refusal>
         ensures { result ≡ add_first (held self.now labels.now) }
@@ -114,7 +122,7 @@ impl<'a> Held<'a> {
         Ok(())
     }
 
-    // Checks 1, 3 and 15 of a withdrawal of row k, and that the rows are not too many.
+    // Checks 1, 3 and 15 of a withdrawal of row k; then 2, since numbers of more than 64 rows can be lent, too.
     #[tactic(auto, unfolding(crate::specs::Held::withdraw_checked, table::specs::Planned::space_refusal))]
     fn check_withdraw(&self, k: usize, labels: &[u8], space: usize) -> Result<(), Refusal>
         ensures { result ≡ withdraw_first (held self.now labels.now) k space }
@@ -164,12 +172,14 @@ impl<'a> Held<'a> {
         }
     }
 
-    // ADDS a row at the end. What a call gives, answer, numbers, lists and working space, is what the definition `add_call` yields, on every
-    // input. For a held table that came from these calls it is as request 5 says: looked at for 2, 3, 6, 7 and 8, and the held plan is the one that planning the whole table gives.
+    // ADDS a row at the end. What a call gives, answer, numbers, lists and working space, is what the definition
+    // `add_call` yields, on every input. Of a held table that came from these calls it is spelled out: the row is
+    // refused 2, 3, 6, 7 or 8, in this order, and then table and plan stay as they were; else it is the last row, and
+    // the held plan is the one that planning the whole table gives.
     pub fn add(&mut self, row: Row, labels: &mut [u8], space: &mut [u8]) -> Result<usize, Refusal>
         ensures same { Same self.old self.new }
         ensures added { gave (answer_of result) (held self.new labels.new) space.new ≡ add_call (held self.old labels.old) row space.old }
-        ensures request5 { Came (held self.old labels.old) → AddRequest5 (held self.old labels.old) row (length space.old) (change (answer_of result) (held self.new labels.new)) }
+        ensures changed { Came (held self.old labels.old) → AddsRow (held self.old labels.old) row (length space.old) (change (answer_of result) (held self.new labels.new)) }
     {
         self.check_add(labels)?;
         self.add_row(row, labels, space)
@@ -203,8 +213,9 @@ impl<'a> Held<'a> {
         }
     }
 
-    // WITHDRAWS row k; later rows move up one. What a call gives, answer, numbers, lists and working space, is what the definition `withdraw_call` yields,
-    // on every input. For a held table that came from these calls it is as request 5 says: refused 3 and 15 and nothing else, never 8.
+    // WITHDRAWS row k; later rows move up one. What a call gives, answer, numbers, lists and working space, is what the
+    // definition `withdraw_call` yields, on every input. Of a held table that came from these calls it is spelled out:
+    // it is refused 3 and then 15 and nothing else, so never 8, and the held plan is that of the whole table.
     pub fn withdraw(
         &mut self,
         k: usize,
@@ -213,7 +224,7 @@ impl<'a> Held<'a> {
     ) -> Result<usize, Refusal>
         ensures same { Same self.old self.new }
         ensures withdrawn { gave (answer_of result) (held self.new labels.new) space.new ≡ withdraw_call (held self.old labels.old) k space.old }
-        ensures request5 { Came (held self.old labels.old) → WithdrawRequest5 (held self.old labels.old) k (length space.old) (change (answer_of result) (held self.new labels.new)) }
+        ensures changed { Came (held self.old labels.old) → WithdrawsRow (held self.old labels.old) k (length space.old) (change (answer_of result) (held self.new labels.new)) }
     {
         self.check_withdraw(k, labels, space.len())?;
         self.withdraw_row(k, labels, space)

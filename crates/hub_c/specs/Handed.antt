@@ -1,4 +1,6 @@
--- Believed: How an answer, a report, the receivers' open hours, a player and what it tells, a held table, what candidates are answered, and words of bits are handed over to C: by numbers alone.
+-- Believed: How an answer, a report, the receivers' open hours, a player and what it tells, a held table, what
+-- candidates are answered, and words of bits are handed over to C: by numbers alone. proofs/Bench.antt has a worked
+-- example of each.
 use Rattle.std.specs.Prelude.{Bool, true, false, ℕ, List}
 use Rattle.window.specs.declared.Kind.{Kind}
 use Rattle.window.specs.declared.Kind.TheVariants.{Round, Run}
@@ -31,7 +33,7 @@ use Rattle.hub_c.specs.declared.HubTried.{HubTried}
 use Rattle.hub_c.specs.declared.words.HubLabelWords.{HubLabelWords}
 use Rattle.hub_c.specs.declared.words.HubMustWord.{HubMustWord}
 
--- the refusal by its number in the papers, 0 for accepted, and the count
+-- the refusal by its number, 0 for accepted, and the count
 abbrev pub handed : Answer → HubAnswer
 handed answer = record { refusal = number_of answer.refusal; count = answer.count }
 

@@ -1,2 +1,2 @@
--- What the contracts of the crate `hub_c` cite: how a call's answer and a run's hours are handed over to C.
+-- What the contracts of the crate `hub_c` cite: how what a call gives is handed over to C.
 pub mod Handed

@@ -1,6 +1,10 @@
-// The hub planner's functions for C and Rust. A round and a run have a function each, so that no bad kind can be passed. No function has a `requires`: each answers every
-// input. Each list is the address of its first element and its length in elements; the address is not NULL, also where the length is 0, and is aligned for its type; a
-// list that is written overlaps no other list of the same call. C has no Result: its structs have a refusal's number beside the values.
+// The hub planner's functions for C and Rust. A round and a run have a function each, so that no bad kind can be
+// passed. No function has a `requires`: each answers every input. Each list is the address of its first element and
+// its length in elements; the address is not NULL, also where the length is 0, and is aligned for its type; a list
+// that is written overlaps no other list of the same call. C has no Result: its structs have a refusal's number
+// beside the values. What the values are on a refusal, the contracts say by the definitions of the crates below:
+// `started` a player that is finished, `begun` an empty table, `fleet_read` and the words zeros (docs/RULES.md,
+// Refusals).
 #![tactic(auto)]
 
 ghost use Rattle.std.specs.Prelude.{◌≡◌};
@@ -19,7 +23,7 @@ ghost use Rattle.window.specs.Rows.{row};
 ghost use Rattle.window.specs.Hours.{hours_from, no_hours};
 
 use fleet_tape::Report;
-use held_table::{Held, Numbers};
+use held_table::{Held, Numbers, REFUSED_GAP, REFUSED_TICKS};
 use player::{Player, Receiver, Stepped};
 use refusals::Refusal;
 use table::{Looked, Rows, Setting, Table};
@@ -27,7 +31,7 @@ use window::{Kind, Row};
 
 pub mod words;
 
-// What a call reports: the refusal's number in the papers, 0 for accepted, and the count, 0 on a refusal.
+// What a call reports: the refusal's number, 0 for accepted, and the count, 0 on a refusal.
 #[repr(C)]
 #[derive(Clone, Copy)]
 pub struct HubAnswer {
@@ -35,7 +39,8 @@ pub struct HubAnswer {
     pub count: usize,
 }
 
-// What the fleet tape reader reports: the refusal's number, whether the tape is of a run, R, the open hours (all 0 in a round) and how many rows there are.
+// What the fleet tape reader reports: the refusal's number, whether the tape is of a run, R, the open hours (all 0 in a
+// round) and how many rows there are. On a refusal all but its number are 0 and false.
 #[repr(C)]
 #[derive(Clone, Copy)]
 pub struct HubReport {
@@ -73,7 +78,8 @@ pub struct HubReceiver {
     pub until: u16,
 }
 
-// What a step of a player gives: that the player is finished, or what each receiver does, and the player that has moved on.
+// What a step of a player gives: that the player is finished, or what each receiver does, and the player that has
+// moved on.
 #[repr(C)]
 #[derive(Clone, Copy)]
 pub struct HubStepped {
@@ -93,7 +99,8 @@ pub struct HubHeldNumbers {
     pub count: usize,
 }
 
-// What a begin of a held table gives: the refusal's number, and the numbers of an empty table.
+// What a begin of a held table gives: the refusal's number, and the numbers of an empty table, of R 2 and g 0 on a
+// refusal.
 #[repr(C)]
 #[derive(Clone, Copy)]
 pub struct HubHeldBegun {
@@ -101,7 +108,8 @@ pub struct HubHeldBegun {
     pub numbers: HubHeldNumbers,
 }
 
-// What a change of a held table gives: the refusal's number and the count, 0 on a refusal, and the numbers of what is then held.
+// What a change of a held table gives: the refusal's number and the count, 0 on a refusal, and the numbers of what is
+// then held.
 #[repr(C)]
 #[derive(Clone, Copy)]
 pub struct HubHeldChange {
@@ -110,7 +118,8 @@ pub struct HubHeldChange {
     pub numbers: HubHeldNumbers,
 }
 
-// What trying candidates reports: the refusal's number, and how many rows were looked at, of the table and of the candidates.
+// What trying candidates reports: the refusal's number, and how many rows were looked at, of the table and of the
+// candidates.
 #[repr(C)]
 #[derive(Clone, Copy)]
 pub struct HubTried {
@@ -216,7 +225,8 @@ pub extern "C" fn hub_plan_run(
     .into()
 }
 
-// Writes the plan tape of a round with a gap and labels to the front of the buffer `tape`; its count is the tape's length.
+// Writes the plan tape of a round with a gap and labels to the front of the buffer `tape`; its count is the tape's
+// length.
 #[unsafe(no_mangle)]
 pub extern "C" fn hub_write_plan_round(
     ticks: u16,
@@ -232,7 +242,8 @@ pub extern "C" fn hub_write_plan_round(
     plan_tape::write_plan(round(ticks, gap, starts, ends, marks), labels, tape).into()
 }
 
-// Writes the plan tape of a run with a gap, with the hours of its receivers, and labels to the front of the buffer `tape`; its count is the tape's length.
+// Writes the plan tape of a run with a gap, with the hours of its receivers, and labels to the front of the buffer
+// `tape`; its count is the tape's length.
 #[unsafe(no_mangle)]
 pub extern "C" fn hub_write_plan_run(
     ticks: u16,
@@ -302,7 +313,8 @@ pub extern "C" fn hub_read_fleet(
     fleet_tape::read_fleet(tape, starts, ends, marks).into()
 }
 
-// Writes to the front of `out` what `hubplan` prints for a fleet tape, and returns how many bytes that is: 0, with nothing written, where `out` is shorter than 400 bytes.
+// Writes to the front of `out` the reply to a fleet tape, and returns how many bytes that is: 0, with nothing
+// written, where `out` is shorter than 400 bytes.
 #[unsafe(no_mangle)]
 pub extern "C" fn hub_reply(tape: &[u8], out: &mut [u8], space: &mut [u8]) -> usize
     ensures { replying result out.new space.new ≡ replied tape.now out.old space.old }
@@ -411,7 +423,7 @@ impl From<HubHeldNumbers> for Numbers {
     }
 }
 
-// A refused begin leaves an empty table of R 2, g 0.
+// A refused begin has no numbers: C is handed those of the empty table that stands for it.
 impl From<Result<Numbers, Refusal>> for HubHeldBegun {
     ghost from_gives = { λ given handed. handed ≡ handed_begun (begun_as given) };
 
@@ -423,7 +435,7 @@ impl From<Result<Numbers, Refusal>> for HubHeldBegun {
             },
             Err(refusal) => HubHeldBegun {
                 refusal: refusal.into(),
-                numbers: Numbers::empty(2, 0).into(),
+                numbers: Numbers::empty(REFUSED_TICKS, REFUSED_GAP).into(),
             },
         }
     }
@@ -536,7 +548,8 @@ pub extern "C" fn hub_try_candidates_round(
     candidates::try_each(table, candidates, numbers, counts, space).into()
 }
 
-// Tries each candidate, alone, as a row that must be heard beside the table of a run with a gap, with the hours of its receivers.
+// Tries each candidate, alone, as a row that must be heard beside the table of a run with a gap, with the hours of its
+// receivers.
 #[unsafe(no_mangle)]
 pub extern "C" fn hub_try_candidates_run(
     ticks: u16,

@@ -52,7 +52,7 @@ impl From<Result<LabelWords, Refusal>> for HubLabelWords {
     }
 }
 
-// As of `HubAnswer`, in another of C's structs.
+// What marks are as a word; on a refusal the word is 0.
 impl From<Result<u64, Refusal>> for HubMustWord {
     ghost from_gives = { λ given handed. handed ≡ handed_must (must_given given) };
 

@@ -1,4 +1,4 @@
-// The program: reads a fleet tape on standard input, and prints the reply.
+// The program: reads a fleet tape on standard input, and prints the reply (docs/RULES.md, The program).
 #![tactic(auto)]
 
 ghost use Rattle.std.specs.Prelude.{◌≤◌, length};
@@ -8,8 +8,8 @@ use reply::{OUT_BYTES, TAPE_BYTES};
 use std::io;
 use std::io::Read;
 
-// Reads until the list is full, the input ends or a read fails, and returns how many bytes it read. A `while`: how far it goes is what the reads say, `read_exact` fails where the
-// input ends sooner, and `read_to_end` asks for a heap.
+// Reads until the list is full, the input ends or a read fails, and returns how many bytes it read. `read_exact` would
+// fail where the input ends sooner, and `read_to_end` asks for a heap.
 fn read_full<R: Read>(from: &mut R, bytes: &mut [u8]) -> usize
     ensures { result ≤ length bytes.new }
 {
@@ -25,7 +25,8 @@ fn read_full<R: Read>(from: &mut R, bytes: &mut [u8]) -> usize
 }
 
 fn main(rt: HostRuntime) -> io::Result<()> {
-    // One byte more than the longest tape that is read, so that a longer tape is seen to be longer; what follows is left unread.
+    // One byte more than the longest tape that is read, so that a longer tape is seen to be longer; what follows is
+    // left unread.
     let mut tape = [0u8; TAPE_BYTES + 1];
     let n = read_full(&mut rt.stdin(), &mut tape);
     let mut out = [0u8; OUT_BYTES];

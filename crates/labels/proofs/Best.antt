@@ -1,4 +1,5 @@
--- Of any class of label lists at most one list is best, and `first_best` finds it. Two classes with the same lists have the same best.
+-- Of any class of label lists at most one list is best, and `first_best` finds it. Two classes with the same lists have
+-- the same best.
 use Prim.Native.Nat.{ℕ, zero, suc, ◌≤◌, ◌<◌}
 use mathlib.Core.Path.{◌≡◌, refl, sym, ap}
 use mathlib.Core.Logic.{◌≢◌, ◌↔◌, inl, inr}
@@ -27,7 +28,7 @@ after_only (inr (e, inl q)) l f = sym q
 after_only {m} {a} (inr (e, inr q)) l f = absurd (earlier_asym m a q (f (sym e) (λ k. earlier_asym a a (rw k at q) (rw k at q))))
 
 module _ {C : List ℕ → Type 0} where
-  -- what `first_best` is of a class, said as paper 01 says it
+  -- what `first_best` finds is the best: it is in the class, none hears more, and others that hear as many come later
   best_of : {m : List ℕ} → BestOf C (some m) → Best C m
   best_of {m} b =
       record {

@@ -2,4 +2,5 @@
 pub mod Heard
 pub mod Search
 pub mod Best
+pub mod Listed
 pub mod Permissions

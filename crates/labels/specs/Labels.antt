@@ -1,4 +1,5 @@
--- Believed: Lists of labels, one label a row, whatever the rows are: how many rows are heard, paper 01's order of label lists, two-track assignments and the best of a class of label lists.
+-- Believed: Lists of labels, one label a row, whatever the rows are: how many rows are heard, the order of label lists,
+-- two-track assignments and the best of a class of label lists (docs/RULES.md, Plans and their order).
 use Rattle.std.specs.Prelude.{ℕ, zero, suc, ◌+◌, ◌≤◌, ◌<◌, ◌≡◌, ◌≢◌, ◌⊎◌, Bool, cond, List, [], ◌∷◌, length, ltb}
 use Rattle.std.proofs.Math.Option.{Option, none, some, map}
 use Rattle.basics.specs.Lists.{at}
@@ -10,26 +11,27 @@ hears (suc zero) = 1
 hears (suc (suc zero)) = 1
 hears (suc (suc (suc x))) = 0
 
--- "the count, which is how many rows it labels 1 or 2 (those are the heard ones)"
+-- how many rows are heard: those labelled 1 or 2
 unfoldable pub heard : List ℕ → ℕ
 unfolding hears
 heard [] = 0
 heard (x ∷ labels) = hears x + heard labels
 
--- "1 comes before 2, and 2 before 0": a label's place in that order; what is no label comes last
+-- a label's place in the order of labels: 1 is first, then 2, then 0; what is no label is last
 unfoldable pub place : ℕ → ℕ
 place zero = 2
 place (suc zero) = 0
 place (suc (suc zero)) = 1
 place (suc (suc (suc x))) = 3
 
--- "compare label lines at the first row where they differ": a comes before b
+-- the label list a comes before b: where they first differ, a has the label that is earlier in the order
 abbrev pub Earlier : List ℕ → List ℕ → Type 0
 Earlier [] b = ⊥
 Earlier (x ∷ a) [] = ⊥
 Earlier (x ∷ a) (y ∷ b) = (place x < place y) ⊎ ((x ≡ y) × Earlier a b)
 
--- A two-track assignment (report CS-TR-149-88) of n rows, "A label per row: 0 not heard, 1 or 2 the receiver": row i may have the label x if `may i x`, and rows i and j of which `clash i j` are not on one receiver.
+-- A two-track assignment (report CS-TR-149-88) of n rows, a label for each: 0 where it is not heard, else its receiver,
+-- 1 or 2. Row i may have the label x if `may i x`, and rows i and j of which `clash i j` are not on one receiver.
 pub record Assignment (n : ℕ) (may clash : ℕ → ℕ → Type 0) (labels : List ℕ) : Type 0 where
   pub each : length labels ≡ n
   pub allowed : (i : ℕ) → i < n → may i (at labels i)
@@ -54,7 +56,8 @@ better (some a) (some b) = cond (ltb (heard a) (heard b)) (some b) (some a)
 abbrev pub put : ℕ → Option (List ℕ) → Option (List ℕ)
 put x = map (λ labels. x ∷ labels)
 
--- Of all lists of n labels that pass a test, the first that hears most: 1, 2 and 0 are tried in each place, in this order.
+-- Of all lists of n labels that pass a test, the first that hears most: 1, 2 and 0 are tried in each place, in this
+-- order.
 unfoldable pub first_best : ℕ → (List ℕ → Bool) → Option (List ℕ)
 unfolding better
 first_best zero p = cond (p []) (some []) none

@@ -1,4 +1,5 @@
--- Inner: Which labels a row may have: a permission is a number whose bit x says that the label x (0, 1 or 2) is permitted.
+-- Inner: Which labels a row may have: a permission is a number whose bit x says that the label x (0, 1 or 2) is
+-- permitted.
 use Rattle.std.specs.Prelude.{ℕ, zero, suc, ◌+◌, ◌*◌, ◌/◌, ◌%◌, Bool, false, cond, ◌&&◌, ◌||◌, eqb}
 
 abbrev pub permits : ℕ → ℕ → Bool

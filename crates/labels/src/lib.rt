@@ -1,4 +1,4 @@
-// Lists of labels, one label a row: 0 not heard, 1 or 2 the receiver. A label is a byte and no enum: C lends lists of bytes, which may hold any byte.
+// Lists of labels, one label a row: 0 not heard, 1 or 2 the receiver. A label is a byte, since C lends lists of bytes.
 #![tactic(auto)]
 
 ghost use Rattle.std.specs.Prelude.{◌≡◌};

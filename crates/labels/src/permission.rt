@@ -1,4 +1,4 @@
-// Permissions: which labels a row may have, as a number whose bit x permits the label x. They stay bytes with functions, not a type with methods: the definitions take lists of numbers, and a struct of one byte would be wrapped and unwrapped at each place of the lists that the core is lent.
+// Permissions: which labels a row may have, as a byte whose bit x permits the label x.
 ghost use Rattle.std.specs.Prelude.{◌≡◌, ◌≤◌, eqb};
 ghost use Rattle.labels.specs.Permission.{permits, permission, restrict, join, only, label_of};
 

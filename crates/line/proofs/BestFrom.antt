@@ -1,4 +1,5 @@
--- Laws of `best_from`, what is best of the rows by number from row j on: one row, rows that can only be left out, and that it asks no more than whether a receiver is free.
+-- Laws of `best_from`, what is best of the rows by number from row j on: one row, rows that can only be left out, and
+-- that it asks no more than whether a receiver is free.
 use mathlib.Core.Path.{◌≡◌, refl, sym, ap, ◌∙◌}
 use mathlib.Core.List.{List, ◌∷◌}
 use mathlib.Core.Bool.{Bool, true, false, ◌&&◌}

@@ -7,16 +7,18 @@ use native.Mathlib.Omega.{arith}
 use borrow.Author.Count.{below_more}
 use lib.ListN.{length, drop, set, length-set}
 use lib.Seq.{get_or-set_same, get_or-set_other, drop-set-lt}
+use Rattle.basics.specs.Limits.{max_rows}
 use Rattle.basics.specs.Lists.{at}
 use Rattle.labels.specs.Permission.{permits}
 use Rattle.line.specs.declared.Receiver.{Receiver}
 use Rattle.line.specs.declared.Receiver.TheVariants.{One, Two}
-use Rattle.line.specs.Cells.{line_bytes, core_bytes, high_at, next_at}
+use Rattle.line.specs.Cells.{line_bytes, core_bytes, high_at, next_at, cell_bytes, next_from}
 use Rattle.line.specs.Filled.{Numbered, Highs}
 use Rattle.line.specs.Turns.{label}
 use Rattle.line.proofs.Turns.{rest_at}
 
--- the bytes of the rows before m are written in t', and h is the last of the next rows of those that may have the receiver
+-- the bytes of the rows before m are written in t', and h is the last of the next rows of those that may have the
+-- receiver
 pub record HighsMade (perms : List ℕ) (x : Receiver) (m h : ℕ) (t t' : List ℕ) : Type 0 where
   pub few : h ≤ length perms
   pub last : (i : ℕ) → i < m → permits (at perms i) (label x) ≡ true → next_at t i ≤ h
@@ -65,7 +67,7 @@ highs_done {perms} x {m} {h} {t} {t'} s e rest =
       low = λ j k. s.low j (omega arith);
       within = λ j k. s.within j (omega arith);
       rising = λ i j w k. s.rising i j w (omega arith);
-      next = λ i j w k p. rw (rest_at t t' line_bytes (4482 + i) rest (omega arith)) (s.next i j w (omega arith) p);
+      next = λ i j w k p. rw (rest_at t t' line_bytes (next_from + i) rest (omega arith)) (s.next i j w (omega arith) p);
     }
 
 -- ---- both receivers
@@ -82,27 +84,27 @@ both_none = record { one = highs_none; two = highs_none; rest = refl }
 pub both_more : {perms t t' : List ℕ} {m h1 h2 : ℕ} (h1' h2' v1 v2 : ℕ) → BothMade perms m h1 h2 t t' → Numbered perms t → m < length perms → core_bytes ≤ length t' → v1 ≡ max h1 m → v2 ≡ max h2 m
     → h1 ≤ h1' → h1' ≤ max h1 (next_at t' m) → (permits (at perms m) 1 ≡ true → next_at t' m ≤ h1')
     → h2 ≤ h2' → h2' ≤ max h2 (next_at t' m) → (permits (at perms m) 2 ≡ true → next_at t' m ≤ h2')
-    → BothMade perms (m + 1) h1' h2' t (set (set t' (4225 + m) v1) (4289 + m) v2)
+    → BothMade perms (m + 1) h1' h2' t (set (set t' (cell_bytes + m) v1) (cell_bytes + max_rows + m) v2)
 both_more {perms} {t} {t'} {m} {h1} {h2} h1' h2' v1 v2 s n hm hl e1 e2 r1 b1 p1 r2 b2 p2 =
     record {
       one =
-          highs_more One h1' (set (set t' (4225 + m) v1) (4289 + m) v2) s.one hm
-          (get_or-set_other (set t' (4225 + m) v1) (4289 + m) (4225 + m) v2 0 (λ q. omega arith) ∙ get_or-set_same t' (4225 + m) v1 0 (omega (arith, few)) ∙ e1)
-          (λ j k. get_or-set_other (set t' (4225 + m) v1) (4289 + m) (4225 + j) v2 0 (λ q. omega (arith, few)) ∙ get_or-set_other t' (4225 + m) (4225 + j) v1 0 (λ q. omega arith))
+          highs_more One h1' (set (set t' (cell_bytes + m) v1) (cell_bytes + max_rows + m) v2) s.one hm
+          (get_or-set_other (set t' (cell_bytes + m) v1) (cell_bytes + max_rows + m) (cell_bytes + m) v2 0 (λ q. omega arith) ∙ get_or-set_same t' (cell_bytes + m) v1 0 (omega (arith, few)) ∙ e1)
+          (λ j k. get_or-set_other (set t' (cell_bytes + m) v1) (cell_bytes + max_rows + m) (cell_bytes + j) v2 0 (λ q. omega (arith, few)) ∙ get_or-set_other t' (cell_bytes + m) (cell_bytes + j) v1 0 (λ q. omega arith))
           r1 (omega (arith, b1, s.one.few, n.within m hm, same)) (λ p. omega (arith, p1 p, same));
       two =
-          highs_more Two h2' (set (set t' (4225 + m) v1) (4289 + m) v2) s.two hm
-          (get_or-set_same (set t' (4225 + m) v1) (4289 + m) v2 0 (omega (arith, few, length-set t' (4225 + m) v1)) ∙ e2)
-          (λ j k. get_or-set_other (set t' (4225 + m) v1) (4289 + m) (4289 + j) v2 0 (λ q. omega arith) ∙ get_or-set_other t' (4225 + m) (4289 + j) v1 0 (λ q. omega (arith, few)))
+          highs_more Two h2' (set (set t' (cell_bytes + m) v1) (cell_bytes + max_rows + m) v2) s.two hm
+          (get_or-set_same (set t' (cell_bytes + m) v1) (cell_bytes + max_rows + m) v2 0 (omega (arith, few, length-set t' (cell_bytes + m) v1)) ∙ e2)
+          (λ j k. get_or-set_other (set t' (cell_bytes + m) v1) (cell_bytes + max_rows + m) (cell_bytes + max_rows + j) v2 0 (λ q. omega arith) ∙ get_or-set_other t' (cell_bytes + m) (cell_bytes + max_rows + j) v1 0 (λ q. omega (arith, few)))
           r2 (omega (arith, b2, s.two.few, n.within m hm, same)) (λ p. omega (arith, p2 p, same));
-      rest = drop-set-lt line_bytes (set t' (4225 + m) v1) (4289 + m) v2 (omega (arith, few)) ∙ drop-set-lt line_bytes t' (4225 + m) v1 (omega (arith, few)) ∙ s.rest;
+      rest = drop-set-lt line_bytes (set t' (cell_bytes + m) v1) (cell_bytes + max_rows + m) v2 (omega (arith, few)) ∙ drop-set-lt line_bytes t' (cell_bytes + m) v1 (omega (arith, few)) ∙ s.rest;
     }
   where
-    few : m < 64
+    few : m < max_rows
     few = omega (arith, n.few)
 
     same : next_at t' m ≡ next_at t m
-    same = rest_at t t' line_bytes (4482 + m) s.rest (omega arith)
+    same = rest_at t t' line_bytes (next_from + m) s.rest (omega arith)
 
 pub both_done : {perms : List ℕ} {m h1 h2 : ℕ} {t t' : List ℕ} → BothMade perms m h1 h2 t t' → m ≡ length perms → (x : Receiver) → Highs perms t' (label x)
 both_done s e One = highs_done One s.one e s.rest

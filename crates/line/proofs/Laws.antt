@@ -1,4 +1,5 @@
--- Laws of the definitions that the contracts cite: rows of lists, how large `best` is, and that it asks of an end only which rows start later.
+-- Laws of the definitions that the contracts cite: rows of lists, how large `best` is, and that it asks of an end only
+-- which rows start later.
 use mathlib.Core.Path.{◌≡◌, refl}
 use mathlib.Core.List.{List, [], ◌∷◌}
 use mathlib.Core.Bool.{Bool, true, false, ◌&&◌}

@@ -11,7 +11,7 @@ use lib.Seq.{get_or-set_same, get_or-set_other, drop-set-lt}
 use Rattle.std.proofs.lemmas.Bool.{cases_lt}
 use Rattle.basics.specs.Lists.{at}
 use Rattle.line.specs.Line.{LineRows}
-use Rattle.line.specs.Cells.{core_bytes, next_at}
+use Rattle.line.specs.Cells.{core_bytes, next_at, next_from}
 use Rattle.line.specs.Filled.{NextRows}
 
 -- row j starts when row i is over exactly if it is not before row i's next row v
@@ -29,19 +29,19 @@ module _ {ss es t : List ℕ} where
   nexts_none = record { within = λ i h. absurd (omega arith); over = λ i h. absurd (omega arith); rest = refl }
 
   pub nexts_more : {m : ℕ} {t' : List ℕ} (v : ℕ) → LineRows ss es → NextsMade ss es m t t' → m < length ss → core_bytes ≤ length t' → m < v → v ≤ length ss
-      → ((j : ℕ) → m < j → j < length ss → (at es m ≤ at ss j) ↔ (v ≤ j)) → NextsMade ss es (m + 1) t (set t' (4482 + m) v)
+      → ((j : ℕ) → m < j → j < length ss → (at es m ≤ at ss j) ↔ (v ≤ j)) → NextsMade ss es (m + 1) t (set t' (next_from + m) v)
   nexts_more {m} {t'} v line s hm hl hv hw o =
       record {
-        within = below_more (λ i. next_at (set t' (4482 + m) v) i ≤ length ss) m (λ i k. rw (before i k) (s.within i k)) (rw here hw);
-        over = below_more (λ i. Over ss es i (next_at (set t' (4482 + m) v) i)) m (λ i k. rw (before i k) (s.over i k)) (rw here own);
-        rest = drop-set-lt core_bytes t' (4482 + m) v (omega (arith, line.few)) ∙ s.rest;
+        within = below_more (λ i. next_at (set t' (next_from + m) v) i ≤ length ss) m (λ i k. rw (before i k) (s.within i k)) (rw here hw);
+        over = below_more (λ i. Over ss es i (next_at (set t' (next_from + m) v) i)) m (λ i k. rw (before i k) (s.over i k)) (rw here own);
+        rest = drop-set-lt core_bytes t' (next_from + m) v (omega (arith, line.few)) ∙ s.rest;
       }
     where
-      here : next_at (set t' (4482 + m) v) m ≡ v
-      here = get_or-set_same t' (4482 + m) v 0 (omega (arith, line.few))
+      here : next_at (set t' (next_from + m) v) m ≡ v
+      here = get_or-set_same t' (next_from + m) v 0 (omega (arith, line.few))
 
-      before : (i : ℕ) → i < m → next_at (set t' (4482 + m) v) i ≡ next_at t' i
-      before i k = get_or-set_other t' (4482 + m) (4482 + i) v 0 (λ q. omega arith)
+      before : (i : ℕ) → i < m → next_at (set t' (next_from + m) v) i ≡ next_at t' i
+      before i k = get_or-set_other t' (next_from + m) (next_from + i) v 0 (λ q. omega arith)
 
       -- a row that is not after row m starts before row m is over
       own : Over ss es m v

@@ -1,4 +1,5 @@
--- The stages of the line program: before the turn of row j - 1 the cells where both receivers are free from row j or a later one on have what is best of the rows from then on.
+-- The stages of the line program: before the turn of row j - 1 the cells where both receivers are free from row j or a
+-- later one on have what is best of the rows from then on.
 use mathlib.Core.Path.{◌≡◌, refl, sym, ap, ◌∙◌}
 use mathlib.Core.Logic.{◌⊎◌, ⊎_elim, inl, inr}
 use mathlib.Core.List.{List}
@@ -10,13 +11,14 @@ use borrow.Author.Tests.{leb-true, leb-false, le-leb, lt-leb}
 use lib.Dec.{leb}
 use lib.ListN.{length, get_or, take, drop, set, length-drop, length-set}
 use lib.Seq.{get_or-set_same, drop-set-lt, get_or-drop, length-take-le}
+use Rattle.basics.specs.Limits.{max_rows}
 use Rattle.std.proofs.lemmas.List.{get_or-take}
 use Rattle.basics.specs.Lists.{at}
 use Rattle.labels.specs.Permission.{permits}
 use Rattle.line.specs.declared.Receiver.{Receiver}
 use Rattle.line.specs.declared.Receiver.TheVariants.{One, Two}
 use Rattle.line.specs.Line.{when, gain, best_from}
-use Rattle.line.specs.Cells.{cell_bytes, core_bytes, next_from, cell_at, high_at, next_at}
+use Rattle.line.specs.Cells.{cell_bytes, core_bytes, next_from, cell_at, high_at, next_at, across}
 use Rattle.line.specs.Filled.{Numbered, Highs, Made, Filled, nexts_of}
 use Rattle.line.specs.Turns.{label, other, side_at, last_heard, Ready, gain_byte, new_value, both_value, TurnMade}
 use Rattle.line.proofs.Laws.{gain_le}
@@ -42,10 +44,10 @@ pub nexts_same : (t t' : List ℕ) (n : ℕ) → drop cell_bytes t' ≡ drop cel
 nexts_same t t' n e = ap (take n) (drop_later t t' cell_bytes next_from (omega arith) e)
 
 pub at_nexts : (t : List ℕ) (n j : ℕ) → j < n → at (nexts_of t n) j ≡ next_at t j
-at_nexts t n j h = get_or-take n (drop 4482 t) j 0 h ∙ get_or-drop 4482 t j 0
+at_nexts t n j h = get_or-take n (drop next_from t) j 0 h ∙ get_or-drop next_from t j 0
 
-pub length_nexts : (t : List ℕ) (n : ℕ) → n ≤ 64 → core_bytes ≤ length t → length (nexts_of t n) ≡ n
-length_nexts t n h k = length-take-le n (drop 4482 t) (omega (arith, length-drop 4482 t))
+pub length_nexts : (t : List ℕ) (n : ℕ) → n ≤ max_rows → core_bytes ≤ length t → length (nexts_of t n) ≡ n
+length_nexts t n h k = length-take-le n (drop next_from t) (omega (arith, length-drop next_from t))
 
 -- ---- the stages
 
@@ -125,9 +127,9 @@ module _ (perms t : List ℕ) (j must : ℕ) (f : FilledFrom perms t (j + 1)) (h
     heard_is = by (permits (at perms j) (label x)) refl (leb (next_at t j) must) refl (leb b must) refl
       where
         by : (p : Bool) → permits (at perms j) (label x) ≡ p → (e : Bool) → leb (next_at t j) must ≡ e → (c : Bool) → leb b must ≡ c
-            → when (leb b (cond p (cond e 64 must) 0)) (gain_byte (side_at x t (next_at t j) b)) ≡ when p (gain (best_of x (nexts_of t (length perms)) perms (j + 1) (next_at t j) b))
+            → when (leb b (cond p (cond e max_rows must) 0)) (gain_byte (side_at x t (next_at t j) b)) ≡ when p (gain (best_of x (nexts_of t (length perms)) perms (j + 1) (next_at t j) b))
         by false q e v c w = rw (lt-leb b 0 (omega arith))
-        by true q true v c w = rw (le-leb b 64 (omega (arith, f.numbered.few))) (can_hear q (omega (arith, leb-true (next_at t j) must v)))
+        by true q true v c w = rw (le-leb b max_rows (omega (arith, f.numbered.few))) (can_hear q (omega (arith, leb-true (next_at t j) must v)))
         by true q false v true w = rw w (can_hear q (omega (arith, leb-true b must w)))
         by true q false v false w =
             rw (
@@ -153,10 +155,10 @@ module _ (perms t : List ℕ) (j must : ℕ) (f : FilledFrom perms t (j + 1)) (h
 
   module _ (t' : List ℕ) (made : TurnMade (at perms j) j must t t') (long : core_bytes ≤ length t') where
     next_same : (i : ℕ) → next_at t' i ≡ next_at t i
-    next_same i = rest_at t t' cell_bytes (4482 + i) made.rest (omega arith)
+    next_same i = rest_at t t' cell_bytes (next_from + i) made.rest (omega arith)
 
     high_same : (y i : ℕ) → high_at t' y i ≡ high_at t y i
-    high_same y i = rest_at t t' cell_bytes (cell_bytes + (y - 1) * 64 + i) made.rest (omega arith)
+    high_same y i = rest_at t t' cell_bytes (cell_bytes + (y - 1) * max_rows + i) made.rest (omega arith)
 
     -- one stage more
     filled_more : FilledFrom perms t' j
@@ -192,29 +194,29 @@ stage_more {perms} {t} {t'} {must = must} j e f h m made long = filled_more perm
 -- ---- the first stage and the last
 
 module _ {perms t : List ℕ} (numbered : Numbered perms t) (highs : (x : Receiver) → Highs perms t (label x)) where
-  first_rest : drop cell_bytes (set t (length perms * 65 + length perms) 1) ≡ drop cell_bytes t
-  first_rest = drop-set-lt cell_bytes t (length perms * 65 + length perms) 1 (omega (arith, numbered.few))
+  first_rest : drop cell_bytes (set t (length perms * across + length perms) 1) ≡ drop cell_bytes t
+  first_rest = drop-set-lt cell_bytes t (length perms * across + length perms) 1 (omega (arith, numbered.few))
 
   -- after the last row nothing is left to be heard
-  pub filled_first : FilledFrom perms (set t (length perms * 65 + length perms) 1) (length perms)
+  pub filled_first : FilledFrom perms (set t (length perms * across + length perms) 1) (length perms)
   filled_first =
       record {
         numbered = numbered_same long next numbered;
-        highs = λ x. highs_same (label x) next (λ i k. rest_at t (set t (length perms * 65 + length perms) 1) cell_bytes (cell_bytes + (label x - 1) * 64 + i) first_rest (omega arith)) (highs x);
+        highs = λ x. highs_same (label x) next (λ i k. rest_at t (set t (length perms * across + length perms) 1) cell_bytes (cell_bytes + (label x - 1) * max_rows + i) first_rest (omega arith)) (highs x);
         cells = λ x y hx hy d.
             let p : x ≡ length perms = omega (arith, d.one) in
             let q : y ≡ length perms = omega (arith, d.two) in
             let w : min (length perms) (length perms) ≡ length perms = omega arith in
             rw (p, q, w)
-            (get_or-set_same t (length perms * 65 + length perms) 1 0 (omega (arith, numbered.few, numbered.long))
-            ∙ sym (from_end (nexts_of (set t (length perms * 65 + length perms) 1) (length perms)) perms (length perms) (length perms)));
+            (get_or-set_same t (length perms * across + length perms) 1 0 (omega (arith, numbered.few, numbered.long))
+            ∙ sym (from_end (nexts_of (set t (length perms * across + length perms) 1) (length perms)) perms (length perms) (length perms)));
       }
     where
-      long : core_bytes ≤ length (set t (length perms * 65 + length perms) 1)
-      long = omega (arith, length-set t (length perms * 65 + length perms) 1, numbered.long)
+      long : core_bytes ≤ length (set t (length perms * across + length perms) 1)
+      long = omega (arith, length-set t (length perms * across + length perms) 1, numbered.long)
 
-      next : (i : ℕ) → next_at (set t (length perms * 65 + length perms) 1) i ≡ next_at t i
-      next i = rest_at t (set t (length perms * 65 + length perms) 1) cell_bytes (4482 + i) first_rest (omega arith)
+      next : (i : ℕ) → next_at (set t (length perms * across + length perms) 1) i ≡ next_at t i
+      next i = rest_at t (set t (length perms * across + length perms) 1) cell_bytes (next_from + i) first_rest (omega arith)
 
 pub filled_last : {perms t : List ℕ} → FilledFrom perms t 0 → Filled perms t
 filled_last f = record { numbered = f.numbered; highs_1 = f.highs One; highs_2 = f.highs Two; cells = λ x y d. f.cells x y (omega arith) (omega arith) d }
@@ -235,7 +237,7 @@ ready j f h =
       high = λ x. omega (arith, (f.highs x).within j h, f.numbered.few);
     }
 
-pub must_within : {perms t : List ℕ} {k must j : ℕ} → FilledFrom perms t j → Must perms k must → must ≤ 64
+pub must_within : {perms t : List ℕ} {k must j : ℕ} → FilledFrom perms t j → Must perms k must → must ≤ max_rows
 must_within f m = omega (arith, m.within, f.numbered.few)
 
 pub must_none : (perms : List ℕ) → Must perms (length perms) (length perms)

@@ -21,11 +21,11 @@ use Rattle.line.specs.Turns.{label, place, other, side_at, last_heard, Ready, bo
 
 -- ---- places
 
-pub place_same : (x : Receiver) (a b a' b' : ℕ) → a ≤ 64 → b ≤ 64 → a' ≤ 64 → b' ≤ 64 → place x a b ≡ place x a' b' → (a ≡ a') × (b ≡ b')
+pub place_same : (x : Receiver) (a b a' b' : ℕ) → a ≤ max_rows → b ≤ max_rows → a' ≤ max_rows → b' ≤ max_rows → place x a b ≡ place x a' b' → (a ≡ a') × (b ≡ b')
 place_same One a b a' b' ha hb ha' hb' e = let q : a ≡ a' = omega arith in (q, omega arith)
 place_same Two a b a' b' ha hb ha' hb' e = let q : b ≡ b' = omega arith in (omega arith, q)
 
-pub place_below : (x : Receiver) (a b : ℕ) → a ≤ 64 → b ≤ 64 → place x a b < cell_bytes
+pub place_below : (x : Receiver) (a b : ℕ) → a ≤ max_rows → b ≤ max_rows → place x a b < cell_bytes
 place_below One a b ha hb = omega arith
 place_below Two a b ha hb = omega arith
 
@@ -45,7 +45,7 @@ rest_at t t' n i e h =
 -- ---- the cells where both are free from row j or the next one on
 
 module _ {p j u : ℕ} {t : List ℕ} where
-  pub first_made : {v v1 v2 : ℕ} → cell_bytes ≤ length t → j < 64 → v ≡ both_value p j u t → v1 ≡ next_value One p j u t → v2 ≡ next_value Two p j u t
+  pub first_made : {v v1 v2 : ℕ} → cell_bytes ≤ length t → j < max_rows → v ≡ both_value p j u t → v1 ≡ next_value One p j u t → v2 ≡ next_value Two p j u t
       → FirstMade p j u t (set (set (set t (place One j j) v) (place One j (j + 1)) v1) (place Two j (j + 1)) v2)
   first_made {v} {v1} {v2} long few e e1 e2 =
       record {
@@ -92,7 +92,7 @@ module _ {x : Receiver} {p j u last : ℕ} {t : List ℕ} where
   side_less m n h s = record { new = λ b k w. s.new b k (omega arith); kept = s.kept; rest = s.rest }
 
   -- one cell more: those that it is made from are not among the cells that are made
-  pub side_more : (m : ℕ) {t' t'' : List ℕ} → SideMade x p j u last m t t' → j + 1 < m → m ≤ 64 → j < u → u ≤ 64 → cell_bytes ≤ length t'
+  pub side_more : (m : ℕ) {t' t'' : List ℕ} → SideMade x p j u last m t t' → j + 1 < m → m ≤ max_rows → j < u → u ≤ max_rows → cell_bytes ≤ length t'
       → t'' ≡ set t' (place x j m) (new_value x p j u last t' m) → SideMade x p j u last (m + 1) t t''
   side_more m {t'} {t''} s hm hk hu hw hl e =
       rw e
@@ -123,13 +123,13 @@ module _ {x : Receiver} {p j u last : ℕ} {t : List ℕ} where
           ∙ rw (s.kept (j + 1) m (omega arith) hk (λ q. omega arith), s.kept u m hw hk (λ q. omega arith))
 
 -- where the other receiver is free from the next row on, a row can be heard whenever its permission says so
-heard_next : (x : Receiver) (p j u must : ℕ) → j < must → j < 64 → leb (j + 1) (last_heard x p u must) ≡ permits p (label x)
+heard_next : (x : Receiver) (p j u must : ℕ) → j < must → j < max_rows → leb (j + 1) (last_heard x p u must) ≡ permits p (label x)
 unfolding last_heard
 heard_next x p j u must h k = go (permits p (label x)) (leb u must)
   where
-    go : (a b : Bool) → leb (j + 1) (cond a (cond b 64 must) 0) ≡ a
+    go : (a b : Bool) → leb (j + 1) (cond a (cond b max_rows must) 0) ≡ a
     go false b = lt-leb (j + 1) 0 (omega arith)
-    go true true = le-leb (j + 1) 64 (omega arith)
+    go true true = le-leb (j + 1) max_rows (omega arith)
     go true false = le-leb (j + 1) must (omega arith)
 
 -- ---- all cells of a turn
@@ -141,7 +141,7 @@ module _ (p j must : ℕ) (t t0 t1 t2 : List ℕ) (r : Ready t j) (w : j < must)
   next_is : (x : Receiver) → side_at x t2 j (j + 1) ≡ new_value x p j (next_at t j) (last_heard x p (next_at t j) must) t (j + 1)
   next_is x = made x ∙ rw (heard_next x p j (next_at t j) must w r.few) (first.next x)
     where
-      i : j + 1 ≤ 64
+      i : j + 1 ≤ max_rows
       i = omega (arith, r.few)
 
       made : (x : Receiver) → side_at x t2 j (j + 1) ≡ side_at x t0 j (j + 1)
@@ -152,14 +152,14 @@ module _ (p j must : ℕ) (t t0 t1 t2 : List ℕ) (r : Ready t j) (w : j < must)
   later_is : (x : Receiver) (b : ℕ) → j + 1 < b → b ≤ high_at t (other x) j
       → side_at x t2 j b ≡ new_value x p j (next_at t j) (last_heard x p (next_at t j) must) t b
   later_is One b h k =
-      let v : b ≤ 64 = omega (arith, r.high Two) in
-      let i : j + 1 ≤ 64 = omega (arith, r) in
+      let v : b ≤ max_rows = omega (arith, r.high Two) in
+      let i : j + 1 ≤ max_rows = omega (arith, r) in
       two.kept b j v (omega arith) (λ q _. omega arith)
       ∙ one.new b h (omega (arith, k))
       ∙ rw (first.kept (j + 1) b (omega arith) (omega arith) i v, first.kept (next_at t j) b r.later (omega arith) r.within v)
   later_is Two b h k =
-      let v : b ≤ 64 = omega (arith, r.high One) in
-      let i : j + 1 ≤ 64 = omega (arith, r) in
+      let v : b ≤ max_rows = omega (arith, r.high One) in
+      let i : j + 1 ≤ max_rows = omega (arith, r) in
       two.new b h (omega (arith, k))
       ∙ rw (
         one.kept b (j + 1) v i (λ q _. omega arith),

@@ -1,28 +1,29 @@
--- Inner: The working space of the core, in the order of who writes it: 65 by 65 cells of a byte, and after them bytes for the rows of the line, the crossing rows and the rows of the table.
+-- Inner: The working space of the core, in the order of who writes it: a square of cells of a byte each, and after them
+-- bytes for the rows of the line, the crossing rows and the rows of the table.
 use Rattle.std.specs.Prelude.{List, ℕ, ◌+◌, ◌*◌, ◌-◌, get_or}
 use Rattle.basics.specs.Limits.{max_rows}
 
--- the cells stand in rows of 65, one for each row of the line and one for "after the last"
+-- the cells stand in rows of so many: one for each row of the line and one for the time after the last
 abbrev pub across : ℕ
-across = 65
+across = max_rows + 1
 
 -- the bytes of all cells
 abbrev pub cell_bytes : ℕ
-cell_bytes = 4225
+cell_bytes = across * across
 
 -- what the line program writes: the cells, and for each row of the line and each receiver a byte
 abbrev pub line_bytes : ℕ
-line_bytes = 4353
+line_bytes = cell_bytes + 2 * max_rows
 
 -- where the labels found begin; before them stands a byte for each crossing row and for none
 abbrev pub found_from : ℕ
-found_from = 4418
+found_from = line_bytes + across
 
 -- where the next rows begin
 abbrev pub next_from : ℕ
-next_from = 4482
+next_from = found_from + max_rows
 
--- the working space that the core may use, in bytes
+-- the bytes of working space that the core may use: those of its parts and some to spare
 abbrev pub core_bytes : ℕ
 core_bytes = 4608
 

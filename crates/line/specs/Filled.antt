@@ -1,4 +1,5 @@
--- Inner: What stands in the working space for a line: its next rows, from which row on each receiver can be free, and the cells.
+-- Inner: What stands in the working space for a line: its next rows, from which row on each receiver can be free, and
+-- the cells.
 use Rattle.std.specs.Prelude.{◌≡◌, ◌↔◌, true, List, ℕ, ◌≤◌, ◌<◌, min, length, take, drop}
 use Rattle.basics.specs.Limits.{max_rows}
 use Rattle.basics.specs.Lists.{at}
@@ -23,14 +24,16 @@ pub record Numbered (perms space : List ℕ) : Type 0 where
   pub later : (j : ℕ) → j < length perms → j < next_at space j
   pub within : (j : ℕ) → j < length perms → next_at space j ≤ length perms
 
--- receiver x can be free in the turn of row j only from some row up to `high_at space x j` on: no row before row j that may have it is over later
+-- receiver x can be free in the turn of row j only from some row up to `high_at space x j` on: no row before row j that
+-- may have it is over later
 pub record Highs (perms space : List ℕ) (x : ℕ) : Type 0 where
   pub low : (j : ℕ) → j < length perms → j ≤ high_at space x j
   pub within : (j : ℕ) → j < length perms → high_at space x j ≤ length perms
   pub rising : (i j : ℕ) → i ≤ j → j < length perms → high_at space x i ≤ high_at space x j
   pub next : (i j : ℕ) → i < j → j < length perms → permits (at perms i) x ≡ true → next_at space i ≤ high_at space x j
 
--- the cells that are made: the smaller of x and y is the row whose turn it is, and the other receiver can be free from the larger on
+-- the cells that are made: the smaller of x and y is the row whose turn it is, and the other receiver can be free from
+-- the larger on
 pub record Made (perms space : List ℕ) (x y : ℕ) : Type 0 where
   pub one : x ≤ length perms
   pub two : y ≤ length perms

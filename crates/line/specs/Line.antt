@@ -21,7 +21,7 @@ rows (s ∷ ss) [] ps = []
 rows (s ∷ ss) (e ∷ es) [] = []
 rows (s ∷ ss) (e ∷ es) (p ∷ ps) = row s e p ∷ rows ss es ps
 
--- the value where a test holds, else 0, which stands for "cannot be"
+-- the value where a test holds, else 0: it cannot be
 abbrev pub when : Bool → ℕ → ℕ
 when true v = v
 when false v = 0
@@ -31,11 +31,13 @@ unfoldable pub gain : ℕ → ℕ
 gain zero = 0
 gain (suc v) = suc (suc v)
 
--- one row of start s and permission p, from the values of leaving it out, of receiver 1, busy until e1, and of receiver 2, busy until e2
+-- one row of start s and permission p, from the values of leaving it out, of receiver 1, busy until e1, and of receiver
+-- 2, busy until e2
 unfoldable pub cell : ℕ → ℕ → ℕ → ℕ → ℕ → ℕ → ℕ → ℕ
 cell p s e1 e2 v0 v1 v2 = max (when (permits p 0) v0) (max (when (permits p 1 && leb e1 s) (gain v1)) (when (permits p 2 && leb e2 s) (gain v2)))
 
--- 0 where the rows cannot all be settled, and c + 1 where c is the most that can be heard, receiver 1 busy until e1 and receiver 2 until e2
+-- 0 where the rows cannot all be settled, and c + 1 where c is the most that can be heard, receiver 1 busy until e1 and
+-- receiver 2 until e2
 unfoldable pub best : List Row → ℕ → ℕ → ℕ
 best [] e1 e2 = 1
 best (r ∷ rs) e1 e2 = cell r.perm r.start e1 e2 (best rs e1 e2) (best rs r.end e2) (best rs e1 r.end)

@@ -47,15 +47,16 @@ impl Receiver {
     }
 }
 
-// The value of leaving a row out, where it may be; 0 where it may not. A value is a byte with 0 for none, and no Option, here and below: it is kept in a cell of one byte
-// of the lent working space.
+// The value of leaving a row out, where it may be; 0 where it may not. A value is a byte with 0 for none, as a cell of
+// the working space keeps it.
 fn out_value(may: bool, v: u8) -> u8
     ensures { result ≡ when may v }
 {
     if may { v } else { 0 }
 }
 
-// The value of hearing a row, where it may be. The sum wraps, so that nothing has to be known of cells that are not made.
+// The value of hearing a row, where it may be. The sum wraps, so that nothing has to be known of cells that are not
+// made.
 #[tactic(auto, unfolding(crate::specs::Line::gain))]
 fn heard_value(may: bool, v: u8) -> u8
     ensures { result ≡ when may (gain_byte v) }
@@ -80,7 +81,8 @@ struct Turn {
 }
 
 impl Turn {
-    // The last row from which on the other receiver may be free where the row is heard on this one; 0 where it may not be.
+    // The last row from which on the other receiver may be free where the row is heard on this one; 0 where it may not
+    // be.
     #[tactic(auto, using(std::proofs::lemmas::Bool::Decides::nat_tests), unfolding(crate::specs::Turns::last_heard))]
     fn last_heard(&self, receiver: Receiver) -> u8
         ensures { result ≡ last_heard receiver self.now.perm self.now.next self.now.must }
@@ -107,7 +109,8 @@ impl Turn {
         space[receiver.place(self.j, b)] = heard.max(out);
     }
 
-    // Makes such cells up to `high`, where they are few: a fixed number of tests, since a loop that makes several cells at once takes longer to set up than so few to make.
+    // Makes such cells up to `high`, where they are few: a fixed number of tests, since a loop that makes several cells
+    // at once takes longer to set up than so few to make.
     #[tactic(auto, using(crate::proofs::Turns::side_none, crate::proofs::Turns::side_less))]
     fn fill_few(&self, receiver: Receiver, last: u8, high: usize, space: &mut [u8])
         requires long { cell_bytes ≤ length space.old }
@@ -122,8 +125,9 @@ impl Turn {
         }
     }
 
-    // Makes such cells up to `high`. The compiler makes 16 at once for receiver 1. The turn is copied, since its fields would be read anew after each byte that is written: as
-    // measured, 1.3 times as many instructions of both sides where 16 rows meet.
+    // Makes such cells up to `high`. The compiler makes 16 at once for receiver 1. The turn is copied, since its fields
+    // would be read anew after each byte that is written: that takes 1.3 times as many instructions of both sides where
+    // 16 rows meet.
     #[inline(never)]
     #[tactic(auto, using(crate::proofs::Turns::side_none, crate::proofs::Turns::side_less))]
     fn fill_many(&self, receiver: Receiver, last: u8, high: usize, space: &mut [u8])
@@ -137,7 +141,8 @@ impl Turn {
         }
     }
 
-    // Makes the cells where this receiver is free from row j on, and the other one from a row after the next up to `high`.
+    // Makes the cells where this receiver is free from row j on, and the other one from a row after the next up to
+    // `high`.
     fn fill_side(&self, receiver: Receiver, high: usize, space: &mut [u8])
         requires long { cell_bytes ≤ length space.old }
         requires high { high ≤ max_rows }
@@ -151,7 +156,8 @@ impl Turn {
         }
     }
 
-    // Makes them for both receivers. Not inlined, since most turns have none where one or two rows meet: those turns need no `Turn` in memory then.
+    // Makes them for both receivers. Not inlined, since most turns have none where one or two rows meet: those turns
+    // need no `Turn` in memory then.
     #[inline(never)]
     fn fill_sides(&self, high_1: usize, high_2: usize, space: &mut [u8])
         requires long { cell_bytes ≤ length space.old }
@@ -163,8 +169,8 @@ impl Turn {
     }
 }
 
-// Makes the cells where each receiver is free from row j or the row after it on, and one of them from row j on: the three are made from the same cells. Two of them may be
-// cells that nothing reads, which costs less than to ask.
+// Makes the cells where each receiver is free from row j or the row after it on, and one of them from row j on: the
+// three are made from the same cells. Two of them may be cells that nothing reads, which costs less than to ask.
 fn fill_first(perm: u8, j: usize, next: usize, space: &mut [u8])
     requires long { cell_bytes ≤ length space.old }
     requires within { (j < max_rows) × (next ≤ max_rows) }
@@ -201,7 +207,8 @@ fn fill_turn(perm: u8, j: usize, must: usize, space: &mut [u8])
     }
 }
 
-// The last row from which on a receiver can be free after a row that may have it, or may not, and whose next row is `next`.
+// The last row from which on a receiver can be free after a row that may have it, or may not, and whose next row is
+// `next`.
 fn high_after(may: bool, high: u8, next: u8) -> u8
     ensures rising { high ≤ result }
     ensures bound { result ≤ max high next }
@@ -210,7 +217,8 @@ fn high_after(may: bool, high: u8, next: u8) -> u8
     if may { high.max(next) } else { high }
 }
 
-// Writes for each row of the line and each receiver the last row from which on the receiver can be free in the row's turn.
+// Writes for each row of the line and each receiver the last row from which on the receiver can be free in the row's
+// turn.
 fn set_highs(perms: &[u8], space: &mut [u8])
     requires { Numbered perms.now space.old }
     ensures highs { (x : Receiver) → Highs perms.now space.new (label x) }
@@ -227,7 +235,8 @@ fn set_highs(perms: &[u8], space: &mut [u8])
     }
 }
 
-// 0 where the rows of a line cannot all be settled, and one more than the most that can be heard. The rows are known by number: their next rows stand in the working space.
+// 0 where the rows of a line cannot all be settled, else one more than the most that can be heard. The rows are known
+// by number: their next rows stand in the working space.
 pub fn line_best(perms: &[u8], space: &mut [u8]) -> u8
     requires { Numbered perms.now space.old }
     ensures value { result ≡ best_from (nexts_of space.new (length perms.now)) perms.now 0 0 0 }
@@ -246,7 +255,8 @@ pub fn line_best(perms: &[u8], space: &mut [u8]) -> u8
     space[0]
 }
 
-// The first row after row j that starts when row j, which ends at `end`, is over; how many rows there are where none does. They come in order of their starts.
+// The first row after row j that starts when row j, which ends at `end`, is over; how many rows there are where none
+// does. They come in order of their starts.
 fn next_row(starts: &[u16], end: u16, j: usize) -> u8
     requires within { j < length starts.now }
     requires few { length starts.now ≤ max_rows }

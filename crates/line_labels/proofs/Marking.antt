@@ -10,10 +10,10 @@ use lib.ListN.{length, get_or, set}
 use lib.Seq.{get_or-set_same, get_or-set_other, drop-set-lt}
 use Rattle.labels.specs.Permission.{join, only}
 use Rattle.labels.proofs.Permissions.{permits_only, join_iff}
-use Rattle.line.specs.Cells.{cell_at, cell_bytes}
+use Rattle.line.specs.Cells.{cell_at, cell_bytes, across}
 use Rattle.line_labels.specs.declared.Turn.{Turn}
 use Rattle.line_labels.specs.declared.Reached.{Reached}
-use Rattle.line_labels.specs.Marks.{unmarked, IsMarked, InCells, More, Leads, Taken, AllTaken, Marked}
+use Rattle.line_labels.specs.Marks.{unmarked, IsMarked, InCells, More, Leads, Taken, AllTaken, Marked, mark}
 
 pub more_none : (t : List ℕ) (r : Reached) → More t r t r
 more_none t r = record { values = λ i. refl; marked = λ i h. h; rest = refl; labels = λ x h. h; stage = le_refl r.stage }
@@ -29,15 +29,15 @@ more_then m n =
     }
 
 leads_later : {turn : Turn} {label needed x y : ℕ} {t t' : List ℕ} {r r' : Reached} → More t r t' r' → Leads turn label needed t x y → Leads turn label needed t' x y
-leads_later {x = x} {y} m l = record { permitted = l.permitted; some = l.some; near = l.near; value = m.values (x * 65 + y) ∙ l.value }
+leads_later {x = x} {y} m l = record { permitted = l.permitted; some = l.some; near = l.near; value = m.values (x * across + y) ∙ l.value }
 
 pub taken_later : {label x y : ℕ} {t t' : List ℕ} {r r' : Reached} → More t r t' r' → Taken label t r x y → Taken label t' r' x y
-taken_later {label} {x} {y} m k = record { marked = m.marked (x * 65 + y) k.marked; found = m.labels label k.found; stage = le_trans k.stage m.stage }
+taken_later {label} {x} {y} m k = record { marked = m.marked (x * across + y) k.marked; found = m.labels label k.found; stage = le_trans k.stage m.stage }
 
 -- what is taken from t1 to t2 is taken from any earlier time to any later
 pub all_later : {turn : Turn} {x y : ℕ} {t t1 t2 t' : List ℕ} {r r1 r2 r' : Reached} → More t r t1 r1 → AllTaken turn t1 x y t2 r2 → More t2 r2 t' r' → AllTaken turn t x y t' r'
 all_later {turn} {x} {y} {t} {t1} m a n =
-    let e : unmarked (cell_at t1 x y) ≡ unmarked (cell_at t x y) = m.values (x * 65 + y) in
+    let e : unmarked (cell_at t1 x y) ≡ unmarked (cell_at t x y) = m.values (x * across + y) in
     record {
       out = λ l. taken_later n (a.out (leads_later m (rw (← e) at l)));
       one = λ f l. taken_later n (a.one f (leads_later m (rw (← e) at l)));
@@ -54,47 +54,47 @@ pub marked_more : {turn : Turn} {x y : ℕ → ℕ} {from to : ℕ} {t t1 t2 : L
 marked_more {turn} {x} {y} {from} {to} {t} {t1} {t2} {r} {r1} {r2} m n a = record { more = more_then m.more n; taken = λ k h l. go k h (eq-or-lt_of_le (omega arith)) }
   where
     go : (k : ℕ) → from ≤ k → (k ≡ to) ⊎ (k < to) → IsMarked (cell_at t (x k) (y k)) → AllTaken turn t (x k) (y k) t2 r2
-    go k h (inl e) s = rw e (all_later m.more (a (m.more.marked (x to * 65 + y to) (rw e at s))) (more_none t2 r2))
+    go k h (inl e) s = rw e (all_later m.more (a (m.more.marked (x to * across + y to) (rw e at s))) (more_none t2 r2))
     go k h (inr l) s = all_later (more_none t r) (m.taken k h l s) n
 
 pub marked_later : {turn : Turn} {x y : ℕ → ℕ} {from to : ℕ} {t t1 t2 t' : List ℕ} {r r1 r2 r' : Reached}
     → More t r t1 r1 → Marked turn x y from to t1 r1 t2 r2 → More t2 r2 t' r' → Marked turn x y from to t r t' r'
 marked_later {x = x} {y} m a n =
-    record { more = more_then m (more_then a.more n); taken = λ k h l s. all_later m (a.taken k h l (m.marked (x k * 65 + y k) s)) n }
+    record { more = more_then m (more_then a.more n); taken = λ k h l s. all_later m (a.taken k h l (m.marked (x k * across + y k) s)) n }
 
 -- ---- one label
 
 -- a cell is marked, and the label that leads to it found
 pub mark_more : {turn : Turn} {label needed x y : ℕ} {t : List ℕ} {r r' : Reached} → InCells x y t → Leads turn label needed t x y
-    → r'.labels ≡ join r.labels (only label) → r'.stage ≡ max r.stage (min x y) → More t r (set t (x * 65 + y) (needed + 128)) r'
+    → r'.labels ≡ join r.labels (only label) → r'.stage ≡ max r.stage (min x y) → More t r (set t (x * across + y) (needed + mark)) r'
 mark_more {label = label} {needed} {x} {y} {t} {r} {r'} c l e f =
     record {
       values = λ i. values i (ℕ_discrete i at);
       marked = λ i h. marked i (ℕ_discrete i at) h;
-      rest = drop-set-lt cell_bytes t at (needed + 128) (omega arith);
+      rest = drop-set-lt cell_bytes t at (needed + mark) (omega arith);
       labels = λ z h. rw e ((join_iff r.labels (only label) z).1 (inl h));
       stage = omega arith;
     }
   where
     at : ℕ
-    at = x * 65 + y
+    at = x * across + y
 
     within : at < length t
     within = omega arith
 
-    values : (i : ℕ) → Dec (i ≡ at) → unmarked (get_or (set t at (needed + 128)) i 0) ≡ unmarked (get_or t i 0)
-    values i (yes q) = rw (q, get_or-set_same t at (needed + 128) 0 within) (omega (arith, l.value))
-    values i (no n) = rw (get_or-set_other t at i (needed + 128) 0 n) refl
+    values : (i : ℕ) → Dec (i ≡ at) → unmarked (get_or (set t at (needed + mark)) i 0) ≡ unmarked (get_or t i 0)
+    values i (yes q) = rw (q, get_or-set_same t at (needed + mark) 0 within) (omega (arith, l.value))
+    values i (no n) = rw (get_or-set_other t at i (needed + mark) 0 n) refl
 
-    marked : (i : ℕ) → Dec (i ≡ at) → IsMarked (get_or t i 0) → IsMarked (get_or (set t at (needed + 128)) i 0)
-    marked i (yes q) h = rw (q, get_or-set_same t at (needed + 128) 0 within) (omega (arith, l.some))
-    marked i (no n) h = rw (get_or-set_other t at i (needed + 128) 0 n) h
+    marked : (i : ℕ) → Dec (i ≡ at) → IsMarked (get_or t i 0) → IsMarked (get_or (set t at (needed + mark)) i 0)
+    marked i (yes q) h = rw (q, get_or-set_same t at (needed + mark) 0 within) (omega (arith, l.some))
+    marked i (no n) h = rw (get_or-set_other t at i (needed + mark) 0 n) h
 
 pub mark_taken : {turn : Turn} {label needed x y : ℕ} {t : List ℕ} (r : Reached) {r' : Reached} → label ≤ 2 → InCells x y t → Leads turn label needed t x y
-    → r'.labels ≡ join r.labels (only label) → r'.stage ≡ max r.stage (min x y) → Taken label (set t (x * 65 + y) (needed + 128)) r' x y
+    → r'.labels ≡ join r.labels (only label) → r'.stage ≡ max r.stage (min x y) → Taken label (set t (x * across + y) (needed + mark)) r' x y
 mark_taken {label = label} {needed} {x} {y} {t} r {r'} h c l e f =
     record {
-      marked = rw (get_or-set_same t (x * 65 + y) (needed + 128) 0 (omega arith)) (omega (arith, l.some));
+      marked = rw (get_or-set_same t (x * across + y) (needed + mark) 0 (omega arith)) (omega (arith, l.some));
       found = rw e ((join_iff r.labels (only label) label).1 (inr (permits_only label h)));
       stage = omega arith;
     }

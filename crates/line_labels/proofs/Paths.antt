@@ -1,4 +1,5 @@
--- Settled labels of a line that hear the most: from each row on they hear what is best of the rows from there on, by the rows from which the receivers are free then.
+-- Settled labels of a line that hear the most: from each row on they hear what is best of the rows from there on, by
+-- the rows from which the receivers are free then.
 use Prim.Native.Nat.{ℕ, zero, suc, ◌+◌, ◌-◌, ◌≤◌, ◌<◌}
 use mathlib.Core.Path.{◌≡◌, refl, sym, ap}
 use mathlib.Core.Logic.{◌≢◌, ⊎_elim}

@@ -20,7 +20,7 @@ use Rattle.line_labels.specs.declared.Turn.{Turn}
 use Rattle.line_labels.specs.declared.Reached.{Reached}
 use Rattle.line_labels.specs.Added.{NotLeftOut, Added, permitted}
 use Rattle.line_labels.specs.Found.{HearsMost, LineFound}
-use Rattle.line_labels.specs.Marks.{InCells, unmarked, RowMarked, ColumnMarked}
+use Rattle.line_labels.specs.Marks.{InCells, unmarked, RowMarked, ColumnMarked, mark}
 use Rattle.line_labels.proofs.Paths.{label_allowed}
 use Rattle.line_labels.proofs.Turns.{SameValues, On, on_start, on_more, is_nexts}
 
@@ -94,7 +94,7 @@ module _ (perms order t0 : List ℕ) (filled : Filled perms t0) where
     pub labels : (l : List ℕ) → HearsMost perms (nexts_of t0 (length perms)) l → (k : ℕ) → k < row → permits (found_at t (at order k)) (at l k) ≡ true
 
   -- the first cell is marked
-  pub progress_none : (t : List ℕ) → t ≡ set t0 0 (unmarked (get_or t0 0 0) + 128) → Progress 0 0 t
+  pub progress_none : (t : List ℕ) → t ≡ set t0 0 (unmarked (get_or t0 0 0) + mark) → Progress 0 0 t
   progress_none t e =
       record {
         values = λ i h. values i (ℕ_discrete i 0);
@@ -108,7 +108,7 @@ module _ (perms order t0 : List ℕ) (filled : Filled perms t0) where
       }
     where
       first : ℕ
-      first = unmarked (get_or t0 0 0) + 128
+      first = unmarked (get_or t0 0 0) + mark
 
       here : get_or t 0 0 ≡ first
       here = ap (λ (l : List ℕ). get_or l 0 0) e ∙ get_or-set_same t0 0 first 0 (omega (arith, filled.numbered.long))

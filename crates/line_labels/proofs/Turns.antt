@@ -17,13 +17,13 @@ use Rattle.labels.specs.Labels.{hears, heard}
 use Rattle.labels.specs.Permission.{permits}
 use Rattle.labels.proofs.Heard.{heard_le}
 use Rattle.line.specs.Line.{numbers, best_from, Settled}
-use Rattle.line.specs.Cells.{cell_at, high_at, next_at, next_from, cell_bytes}
+use Rattle.line.specs.Cells.{cell_at, high_at, next_at, next_from, cell_bytes, across}
 use Rattle.line.specs.Filled.{Filled, Highs, nexts_of}
 use Rattle.line.proofs.Optimum.{put, put_same, put_other}
 use Rattle.line_labels.specs.declared.Turn.{Turn}
 use Rattle.line_labels.specs.declared.Reached.{Reached}
 use Rattle.line_labels.specs.Added.{NotLeftOut}
-use Rattle.line_labels.specs.Marks.{unmarked, IsMarked, Leads, Taken, AllTaken, RowMarked, ColumnMarked}
+use Rattle.line_labels.specs.Marks.{unmarked, IsMarked, Leads, Taken, AllTaken, RowMarked, ColumnMarked, mark}
 use Rattle.line.proofs.BestFrom.{best_max}
 use Rattle.line_labels.proofs.Paths.{Nexts, Path, Past, past, path_more, path_best, label_allowed, heard_cons}
 
@@ -82,7 +82,8 @@ module _ (perms t0 : List ℕ) (filled : Filled perms t0) where
       }
 
   module _ (l : List ℕ) (a : Settled (numbers (length perms)) nexts perms l) where
-    -- The labels come by cell (x, y) before row s: x and y are the rows from which the receivers are free, and no less than s. One of them is s.
+    -- The labels come by cell (x, y) before row s: x and y are the rows from which the receivers are free, and no less
+    -- than s. One of them is s.
     pub record At (s : ℕ) (f : ℕ → ℕ) : Type 0 where
       pub path : Path perms nexts is_nexts l a s f
       pub within : s ≤ length perms
@@ -90,7 +91,8 @@ module _ (perms t0 : List ℕ) (filled : Filled perms t0) where
       pub limit_1 : Limit perms t0 1 (f 1) s
       pub limit_2 : Limit perms t0 2 (f 2) s
 
-    -- Before the turn of a row the cell that the labels come by next, in the turn of row `stage`, is marked. The rows before that are left out.
+    -- Before the turn of a row the cell that the labels come by next, in the turn of row `stage`, is marked. The rows
+    -- before that are left out.
     pub record On (row reached : ℕ) (t : List ℕ) : Type 0 where
       pub stage : ℕ
       pub free : ℕ → ℕ
@@ -127,10 +129,10 @@ module _ (perms t0 : List ℕ) (filled : Filled perms t0) where
     value_now : (s : ℕ) (f : ℕ → ℕ) → At s f → (t : List ℕ) → SameValues t0 t
         → unmarked (cell_at t (max (f 1) s) (max (f 2) s)) ≡ suc (heard (drop s l))
     value_now s f p t v =
-        v (max (f 1) s * 65 + max (f 2) s) (omega (arith, p.limit_1.within, p.limit_2.within, p.within, filled.numbered.few)) ∙ at_value s f p
+        v (max (f 1) s * across + max (f 2) s) (omega (arith, p.limit_1.within, p.limit_2.within, p.within, filled.numbered.few)) ∙ at_value s f p
 
     -- at first both receivers are free, and the first cell is marked
-    pub on_start : suc (heard l) ≡ best_from nexts perms 0 0 0 → (t : List ℕ) → get_or t 0 0 ≡ unmarked (get_or t0 0 0) + 128 → On 0 0 t
+    pub on_start : suc (heard l) ≡ best_from nexts perms 0 0 0 → (t : List ℕ) → get_or t 0 0 ≡ unmarked (get_or t0 0 0) + mark → On 0 0 t
     on_start m t e =
         record {
           stage = 0;
@@ -254,7 +256,7 @@ module _ (perms t0 : List ℕ) (filled : Filled perms t0) where
       on_more {t = t} {t'} {t''} {r' = r'} v o rows columns start same kept = ⊎_elim now later (eq-or-lt_of_le o.later)
         where
           still : (s : ℕ) (f : ℕ → ℕ) → At s f → IsMarked (cell_at t' (max (f 1) s) (max (f 2) s)) → IsMarked (cell_at t'' (max (f 1) s) (max (f 2) s))
-          still s f p m = rw (kept (max (f 1) s * 65 + max (f 2) s) (omega (arith, p.limit_1.within, p.limit_2.within, p.within, filled.numbered.few))) m
+          still s f p m = rw (kept (max (f 1) s * across + max (f 2) s) (omega (arith, p.limit_1.within, p.limit_2.within, p.within, filled.numbered.few))) m
 
           later : turn.row < o.stage → On (turn.row + 1) r'.stage t'' × (permits r'.labels (at l turn.row) ≡ true)
           later u = (
@@ -263,7 +265,7 @@ module _ (perms t0 : List ℕ) (filled : Filled perms t0) where
               free = o.free;
               cell = o.cell;
               later = omega arith;
-              marked = still o.stage o.free o.cell (rows.more.marked (max (o.free 1) o.stage * 65 + max (o.free 2) o.stage) o.marked);
+              marked = still o.stage o.free o.cell (rows.more.marked (max (o.free 1) o.stage * across + max (o.free 2) o.stage) o.marked);
               out = λ k b c. o.out k (omega arith) c;
               over = λ b. omega (arith, o.over u, rows.more.stage);
             },

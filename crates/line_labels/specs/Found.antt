@@ -13,8 +13,9 @@ pub record HearsMost (perms nexts labels : List ℕ) : Type 0 where
   pub settled : Settled (numbers (length perms)) nexts perms labels
   pub most : suc (heard labels) ≡ best_from nexts perms 0 0 0
 
--- From `space` to `space'`: row k of the line is row `order k` of the table, and to the labels found for that row are added those that row k has in some labels that hear the most.
--- What else is added is permitted, so that a row may be given more labels than it has there; none is missed.
+-- From `space` to `space'`: row k of the line is row `order k` of the table, and to the labels found for that row are
+-- added those that row k has in some labels that hear the most. What else is added is permitted, so that a row may be
+-- given more labels than it has there; none is missed.
 pub record LineFound (perms order space space' : List ℕ) : Type 0 where
   pub kept : (i : ℕ) → line_bytes ≤ i → i < found_from → get_or space' i 0 ≡ get_or space i 0
   pub rest : drop next_from space' ≡ drop next_from space

@@ -1,4 +1,5 @@
--- Inner: The pass over the cells that marks those that some labels that hear the most come by: a marked cell has 128 more than its value.
+-- Inner: The pass over the cells that marks those that some labels that hear the most come by: a marked cell has `mark`
+-- more than its value.
 use Rattle.std.specs.Prelude.{◌≡◌, true, List, ℕ, ◌+◌, ◌-◌, ◌%◌, ◌≤◌, ◌<◌, min, max, length, drop, get_or}
 use Rattle.basics.specs.Limits.{max_rows}
 use Rattle.labels.specs.Permission.{permits}
@@ -6,13 +7,17 @@ use Rattle.line.specs.Cells.{cell_at, cell_bytes}
 use Rattle.line_labels.specs.declared.Turn.{Turn}
 use Rattle.line_labels.specs.declared.Reached.{Reached}
 
+-- what a marked cell has more than its value, which is less
+abbrev pub mark : ℕ
+mark = 128
+
 -- a value without its mark
 abbrev pub unmarked : ℕ → ℕ
-unmarked v = v % 128
+unmarked v = v % mark
 
 -- what stands in a marked cell; its value is not 0
 abbrev pub IsMarked : ℕ → Type 0
-IsMarked v = 128 < v
+IsMarked v = mark < v
 
 -- a cell, and bytes for all cells
 pub record InCells (x y : ℕ) (space : List ℕ) : Type 0 where
@@ -28,7 +33,8 @@ pub record More (t : List ℕ) (r : Reached) (t' : List ℕ) (r' : Reached) : Ty
   pub labels : (x : ℕ) → permits r.labels x ≡ true → permits r'.labels x ≡ true
   pub stage : r.stage ≤ r'.stage
 
--- A label of the row whose turn it is leads to cell (x, y): the row may have it, the rows from it to the cell's may be left out, and the cell has the value that is needed.
+-- A label of the row whose turn it is leads to cell (x, y): the row may have it, the rows from it to the cell's may be
+-- left out, and the cell has the value that is needed.
 pub record Leads (turn : Turn) (label needed : ℕ) (t : List ℕ) (x y : ℕ) : Type 0 where
   pub permitted : permits turn.perm label ≡ true
   pub some : 0 < needed
@@ -41,7 +47,8 @@ pub record Taken (label : ℕ) (t : List ℕ) (r : Reached) (x y : ℕ) : Type 0
   pub found : permits r.labels label ≡ true
   pub stage : min x y ≤ r.stage
 
--- Each label that leads from cell (x, y) of t to another is taken: left out, on receiver 1 if it is free, on receiver 2 if it is free.
+-- Each label that leads from cell (x, y) of t to another is taken: left out, on receiver 1 if it is free, on receiver 2
+-- if it is free.
 pub record AllTaken (turn : Turn) (t : List ℕ) (x y : ℕ) (t' : List ℕ) (r' : Reached) : Type 0 where
   pub out : Leads turn 0 (unmarked (cell_at t x y)) t (max x (turn.row + 1)) (max y (turn.row + 1)) → Taken 0 t' r' (max x (turn.row + 1)) (max y (turn.row + 1))
   pub one : x ≡ turn.row → Leads turn 1 (unmarked (cell_at t x y) - 1) t turn.next (max y (turn.row + 1)) → Taken 1 t' r' turn.next (max y (turn.row + 1))

@@ -37,7 +37,8 @@ struct Turn {
 impl Turn {
     ghost use Rattle.line_labels.specs.Marks.{InCells, IsMarked, More, Leads, Taken, AllTaken, RowMarked, ColumnMarked};
 
-    // Whether the label of the row leads to cell (x, y), by which as many are heard as is needed. One test after another, not joined by `&&`, and the cheapest first.
+    // Whether the label of the row leads to cell (x, y), by which as many are heard as is needed. The cheapest test
+    // comes first.
     fn leads(self, label: u8, needed: u8, x: usize, y: usize, space: &[u8]) -> bool
         requires { InCells x y space.now }
         ensures { (result ≡ true) ↔ Leads self label needed space.now x y }
@@ -80,7 +81,8 @@ impl Turn {
         }
     }
 
-    // What a label of a receiver that is free from row `from` on leaves to be heard. A busy receiver has 0, which no label leads to.
+    // What a label of a receiver that is free from row `from` on leaves to be heard. A busy receiver has 0, which no
+    // label leads to.
     fn left(self, from: usize, value: u8) -> u8
         requires { 0 < value }
         ensures { from ≡ self.row → result ≡ value - 1 }
@@ -132,7 +134,8 @@ impl Turn {
         now
     }
 
-    // Takes the labels that lead from the cells of the turn. Receiver 1 is free from row `high_1` on at the latest, receiver 2 from row `high_2` on.
+    // Takes the labels that lead from the cells of the turn. Receiver 1 is free from row `high_1` on at the latest,
+    // receiver 2 from row `high_2` on.
     fn take_turn(self, high_1: usize, high_2: usize, reached: Reached, space: &mut [u8]) -> Reached
         requires { InCells high_1 high_2 space.old }
         ensures row { RowMarked self (high_2 + 1) space.old reached space.new result }
@@ -169,7 +172,8 @@ fn must_after(perms: &[u8], row: usize, must: usize) -> usize
     }
 }
 
-// The labels found for a row before its turn: 0, if a marked cell has a later stage. Both receivers are busy in the row's turn then.
+// The labels found for a row before its turn: 0, if a marked cell has a later stage. Both receivers are busy in the
+// row's turn then.
 #[tactic(auto, unfolding(labels::specs::Permission::only))]
 fn passed(row: usize, stage: usize) -> u8
     ensures { row < stage → permits result 0 ≡ true }
@@ -191,8 +195,9 @@ fn add_labels(perm: u8, labels: u8, r: usize, space: &mut [u8])
     space[FOUND_FROM + r] = joined(space[FOUND_FROM + r], permitted);
 }
 
-// After `line::line_best`: adds to the labels found those that each row of the line has in some labels that hear the most. `order` has the row of the table for each row of the line.
-// Not inlined: a plan takes 144 bytes of stack less, and 1 to 3 percent fewer instructions, as measured.
+// After `line::line_best`: adds to the labels found those that each row of the line has in some labels that hear the
+// most. `order` has the row of the table for each row of the line. Not inlined: a plan takes 144 bytes of stack less,
+// and 1 to 3 percent fewer instructions.
 #[inline(never)]
 pub fn find_line_labels(perms: &[u8], order: &[u8], space: &mut [u8])
     requires filled { Filled perms.now space.old }

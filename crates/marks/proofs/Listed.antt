@@ -1,4 +1,4 @@
--- What each mark says, written out: request 2 of paper 02 as a table, by computing; and how marks are raised (request 7).
+-- What each mark says, and how each is raised, written out by computing.
 use Prim.Native.Nat.{ℕ}
 use mathlib.Core.Path.{◌≡◌, refl}
 use mathlib.Core.Bool.{Bool, true, false}
@@ -8,7 +8,7 @@ use Rattle.marks.specs.Marks.{is_must, mark_allows, raised}
 abbrev Allows : ℕ → Bool → Bool → Bool → Type 0
 Allows mark out one two = (mark_allows mark 0 ≡ out) × (mark_allows mark 1 ≡ one) × (mark_allows mark 2 ≡ two)
 
--- "0 and 1 as before, 2 and 3 may and must on receiver 1 only, 4 and 5 may and must on receiver 2 only"
+-- even marks may be left out, odd ones not; 2 and 3 have receiver 1 alone, 4 and 5 receiver 2
 pub labels_listed :
     Allows 0 true true true
     × Allows 1 false true true
@@ -19,7 +19,7 @@ pub labels_listed :
 unfolding mark_allows
 labels_listed = ((refl, refl, refl), (refl, refl, refl), (refl, refl, refl), (refl, refl, refl), (refl, refl, refl), (refl, refl, refl))
 
--- "may" and "must", in turn; above 5 there is no mark
+-- odd marks must be heard; above 5 there is no mark
 pub musts_listed :
     (is_must 0 ≡ false)
     × (is_must 1 ≡ true)
@@ -30,7 +30,7 @@ pub musts_listed :
     × (is_must 7 ≡ false)
 musts_listed = (refl, refl, refl, refl, refl, refl, refl)
 
--- "marks 0, 2, 4 raised to 1, 3, 5"
+-- even marks are raised by one, all others stay
 pub raised_listed :
     (raised 0 ≡ 1)
     × (raised 1 ≡ 1)

@@ -1,4 +1,5 @@
--- Laws of a raised mark: the row must be heard, by the receivers that could hear it before, and marks above 5 stay above.
+-- Laws of a raised mark: the row must be heard, by the receivers that could hear it before, and marks above 5 stay
+-- above.
 use Prim.Native.Nat.{ℕ, zero, suc, ◌≤◌, ◌<◌}
 use mathlib.Core.Path.{◌≡◌, refl, sym, ap, ◌∙◌}
 use mathlib.Core.Logic.{◌↔◌, ⊎_elim}
@@ -23,12 +24,12 @@ above_stays : (mark : ℕ) → max_mark < mark → raised mark ≡ mark
 unfolding raised
 above_stays mark h = rw (ne_eqb mark 0 (λ e. omega arith), ne_eqb mark 2 (λ e. omega arith), ne_eqb mark 4 (λ e. omega arith)) refl
 
--- refusal 7 is the same before and after
+-- a raised mark is refused with 7 exactly if the mark itself is
 pub raised_within : (mark : ℕ) → leb (raised mark) max_mark ≡ leb mark max_mark
 unfolding raised
 raised_within = each (λ m. leb (raised m) max_mark ≡ leb m max_mark) refl refl refl refl refl refl (λ m h. ap (λ x. leb x max_mark) (above_stays m h))
 
--- "as an added must row"
+-- a row of a raised mark must be heard
 pub raised_must : (mark : ℕ) → mark ≤ max_mark → Must (raised mark)
 unfolding raised
 raised_must mark h = (must_iff (raised mark)).0 (each (λ m. m ≤ max_mark → is_must (raised m) ≡ true) (λ k. refl) (λ k. refl) (λ k. refl) (λ k. refl) (λ k. refl) (λ k. refl) (λ m a k. absurd (omega arith)) mark h)

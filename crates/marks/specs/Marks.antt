@@ -1,9 +1,9 @@
--- Believed: What a row's mark says. Paper 01: "0 may be heard, 1 must be heard". Request 2 of paper 02: "The mark becomes 0 to 5: 0 and 1 as before,
--- 2 and 3 may and must on receiver 1 only, 4 and 5 may and must on receiver 2 only."
+-- Believed: What a row's mark says (docs/RULES.md, Marks). Of an even mark the row may be heard, of an odd one it must
+-- be; of 0 and 1 by either receiver, of 2 and 3 by receiver 1 alone, of 4 and 5 by receiver 2 alone.
 use Rattle.std.specs.Prelude.{ℕ, ◌≡◌, ◌⊎◌, Bool, cond, not, ◌&&◌, ◌||◌, eqb}
 use Rattle.basics.specs.Tests.{◌⇒◌}
 
--- "Refusal 7 now begins at mark 6."
+-- the highest mark; what is above it is refused with 7
 abbrev pub max_mark : ℕ
 max_mark = 5
 
@@ -11,11 +11,11 @@ max_mark = 5
 abbrev pub Must : ℕ → Type 0
 Must mark = (mark ≡ 1) ⊎ (mark ≡ 3) ⊎ (mark ≡ 5)
 
--- "on receiver 1 only": marks 2 and 3
+-- only receiver 1 can hear the row: marks 2 and 3
 abbrev pub Receiver1Only : ℕ → Type 0
 Receiver1Only mark = (mark ≡ 2) ⊎ (mark ≡ 3)
 
--- "on receiver 2 only": marks 4 and 5
+-- only receiver 2 can hear the row: marks 4 and 5
 abbrev pub Receiver2Only : ℕ → Type 0
 Receiver2Only mark = (mark ≡ 4) ⊎ (mark ≡ 5)
 
@@ -37,6 +37,6 @@ mark_allows mark label =
     && (is_receiver1_only mark ⇒ not (eqb label 2))
     && (is_receiver2_only mark ⇒ not (eqb label 1))
 
--- "marks 0, 2, 4 raised to 1, 3, 5" (request 7 of paper 02); others stay
+-- the mark of the same row as one that must be heard: 1, 3 and 5 for 0, 2 and 4; others stay
 unfoldable pub raised : ℕ → ℕ
 raised mark = cond (eqb mark 0) 1 (cond (eqb mark 2) 3 (cond (eqb mark 4) 5 mark))

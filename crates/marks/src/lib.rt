@@ -1,10 +1,11 @@
-// What a row's mark says: whether the row must be heard, and by which receiver alone. A mark is a byte and no enum: C lends lists of bytes, of which those above 5 are refused.
+// What a row's mark says: whether the row must be heard, and by which receiver alone (docs/RULES.md, Marks). A mark is
+// a byte, since C lends lists of bytes.
 #![tactic(auto)]
 
 ghost use Rattle.std.specs.Prelude.{◌≡◌};
 ghost use Rattle.marks.specs.Marks.{is_must, is_receiver1_only, is_receiver2_only, mark_allows, raised};
 
-// Refusal 7 begins above it.
+// The highest mark. What is above it is refused with 7.
 pub const MAX_MARK: u8 = 5;
 
 // Whether a row with this mark must be heard.

@@ -1,4 +1,5 @@
--- What no labels of a pair pass: they hear as many rows as the two receivers together, and each receiver no more than it could alone with its crossing row.
+-- What no labels of a pair pass: they hear as many rows as the two receivers together, and each receiver no more than
+-- it could alone with its crossing row.
 use Prim.Native.Nat.{ℕ, zero, suc, ◌+◌, ◌-◌, ◌≤◌, ◌<◌}
 use mathlib.Core.Path.{◌≡◌, refl, sym, ap, ◌∙◌}
 use mathlib.Core.Logic.{◌≢◌, ⊎_elim}

@@ -1,4 +1,5 @@
--- Laws of `Most`: of an empty class, of one class or another, of classes that are tried one after the other or passed over.
+-- Laws of `Most`: of an empty class, of one class or another, of classes that are tried one after the other or passed
+-- over.
 use Prim.Native.Nat.{ℕ, suc, ◌+◌, ◌≤◌, ◌<◌, max}
 use mathlib.Core.Path.{◌≡◌, refl}
 use mathlib.Core.Logic.{◌↔◌, ◌⊎◌, inl, inr, ⊎_elim}

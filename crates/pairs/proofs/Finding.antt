@@ -1,4 +1,5 @@
--- What the search for labels keeps from pair to pair: over the pairs that were tried, the labels that rows have in some assignment that reaches the cap are found.
+-- What the search for labels keeps from pair to pair: over the pairs that were tried, the labels that rows have in some
+-- assignment that reaches the cap are found.
 use Prim.Native.Nat.{ℕ, suc, ◌+◌, ◌-◌, ◌≤◌, ◌<◌}
 use mathlib.Core.Path.{◌≡◌, refl, subst, ◌∙◌}
 use mathlib.Core.Logic.{◌↔◌, ◌⊎◌, inl, inr, ⊎_elim}
@@ -13,7 +14,7 @@ use Rattle.labels.specs.Labels.{heard}
 use Rattle.line.specs.Cells.{worth_at, line_bytes, found_from, next_from}
 use Rattle.pairs.specs.Pairs.{gathered, Cleared, PairFit}
 use Rattle.pairs.specs.Ready.{Rows, Ready}
-use Rattle.pairs.specs.Bounds.{Worth, bound_of, PairValue}
+use Rattle.pairs.specs.Bounds.{Worth, bound_of, PairValue, max_worth}
 use Rattle.pairs.specs.Found.{LabelsFound, Found}
 use Rattle.pairs.specs.Finding.{Reaching, Begun, PairAdded}
 use Rattle.pairs.proofs.Fits.{AnyFit, fit_iff}
@@ -56,7 +57,7 @@ module _ {positions ends order perms : List ℕ} {m : ℕ} (rows : Rows position
 -- The lists of C are tried: whether one reaches the cap, and if so the labels found; the worths and the next rows stay.
 pub record Finding (positions ends order perms : List ℕ) (m cap : ℕ) (C : List ℕ → Type 0) (s₀ s : List ℕ) (reached : Bool) : Type 0 where
   pub worths : (w : ℕ) → w ≤ m → Worth positions ends (gathered order perms) m 2 w (worth_at s w)
-  pub small : (w : ℕ) → w ≤ m → worth_at s w ≤ 66
+  pub small : (w : ℕ) → w ≤ m → worth_at s w ≤ max_worth
   pub nexts : drop next_from s ≡ drop next_from s₀
   pub found : Found order perms (length positions) cap C s₀ s reached
 
@@ -82,7 +83,7 @@ worth_kept rows K w h = K.worths w (omega (arith, rows.crossing.within, rows.few
 module _ {positions ends order perms s₀ : List ℕ} {m cap : ℕ} (rows : Rows positions ends order perms m) where
   -- no pair
   pub finding_begun : {s : List ℕ} → ((w : ℕ) → w ≤ m → Worth positions ends (gathered order perms) m 2 w (worth_at s w))
-      → ((w : ℕ) → w ≤ m → worth_at s w ≤ 66) → drop found_from s ≡ drop found_from s₀
+      → ((w : ℕ) → w ≤ m → worth_at s w ≤ max_worth) → drop found_from s ≡ drop found_from s₀
       → Finding positions ends order perms m cap (FirstFrom positions ends (gathered order perms) m (m + 1)) s₀ s false
   finding_begun {s} f g e =
       record {

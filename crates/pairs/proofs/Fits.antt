@@ -1,4 +1,5 @@
--- The pair theorem: labels of rows in order leave no two arcs of one receiver with a common tick exactly if some pair of crossing rows fits them.
+-- The pair theorem: labels of rows in order leave no two arcs of one receiver with a common tick exactly if some pair
+-- of crossing rows fits them.
 use Prim.Native.Nat.{ℕ, zero, suc, ◌≤◌, ◌<◌}
 use mathlib.Core.Path.{◌≡◌, refl, sym, ap, ◌∙◌}
 use mathlib.Core.Logic.{◌↔◌, ◌⊎◌, inl, inr, ⊎_elim, ◌≢◌}

@@ -1,4 +1,5 @@
--- What stays of the working space from pair to pair: the worths and the next rows, and of a pair that reaches the cap what the line program left.
+-- What stays of the working space from pair to pair: the worths and the next rows, and of a pair that reaches the cap
+-- what the line program left.
 use Prim.Native.Nat.{ℕ, ◌+◌, ◌-◌, ◌*◌, ◌≤◌, ◌<◌, min}
 use mathlib.Core.Path.{◌≡◌, refl, sym, ap, ◌∙◌}
 use mathlib.Core.Bool.{Bool, true, false}

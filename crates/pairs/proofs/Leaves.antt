@@ -1,4 +1,5 @@
--- What a pair leaves a row: the permission permits exactly what the row's own permission permits and the pair leaves; and when a pair has no labels.
+-- What a pair leaves a row: the permission permits exactly what the row's own permission permits and the pair leaves;
+-- and when a pair has no labels.
 use Prim.Native.Nat.{ℕ, zero, suc, ◌+◌, ◌≤◌, ◌<◌}
 use mathlib.Core.Path.{◌≡◌, refl, sym, ap, subst, ◌∙◌}
 use mathlib.Core.Logic.{◌↔◌, ◌≢◌}

@@ -1,4 +1,5 @@
--- The rows that do not cross are a line, and the same line by number: a row starts when another is over exactly if it is not before that one's next row, so the same labels settle both.
+-- The rows that do not cross are a line, and the same line by number: a row starts when another is over exactly if it
+-- is not before that one's next row, so the same labels settle both.
 use Prim.Native.Nat.{ℕ, ◌+◌, ◌≤◌, ◌<◌}
 use mathlib.Core.Path.{◌≡◌, ◌∙◌}
 use mathlib.Core.Logic.Iff
@@ -8,6 +9,7 @@ use native.Mathlib.Decide.{dec_le}
 use native.Mathlib.Omega.{arith}
 use lib.ListN.{length, drop, length-drop}
 use lib.Seq.{get_or-drop}
+use Rattle.basics.specs.Limits.{max_rows}
 use Rattle.std.proofs.lemmas.List.{get_or-take, length-take-le}
 use Rattle.std.proofs.lemmas.List.FromFn.{length-range_with_len}
 use Rattle.basics.specs.Lists.{at}
@@ -20,7 +22,7 @@ use Rattle.line.proofs.BestFrom.{number, from_le}
 use Rattle.pairs.proofs.Bounds.{rises}
 
 -- the rows that do not cross
-pub line_rows : {positions ends : List ℕ} {m : ℕ} → length positions ≤ 64 → length ends ≡ length positions → Crossing positions ends m → InOrder positions ends
+pub line_rows : {positions ends : List ℕ} {m : ℕ} → length positions ≤ max_rows → length ends ≡ length positions → Crossing positions ends m → InOrder positions ends
     → LineRows (drop m positions) (drop m ends)
 line_rows {positions} {ends} {m} few each_end crossing ordered =
     record {
@@ -77,5 +79,5 @@ module _ {starts ends space : List ℕ} (L : LineRows starts ends) (N : NextRows
   pub settled_iff : (l : List ℕ) → Settled (numbers (length perms)) (nexts_of space (length perms)) perms l ↔ Settled starts ends perms l
   settled_iff l = rw length_numbers (assignment_iff (length starts) (λ i x h. Iff.rfl) (λ i j h k d. not_either (over_iff i j h k) (over_iff j i k h)) l)
 
-  pub value_le : best_from (nexts_of space (length perms)) perms 0 0 0 ≤ 65
+  pub value_le : best_from (nexts_of space (length perms)) perms 0 0 0 ≤ max_rows + 1
   value_le = omega (arith, from_le (nexts_of space (length perms)) perms 0 0 0, L.few)

@@ -1,4 +1,5 @@
--- What the functions that try pairs rest on: what they are lent serves again, the value of a pair, and the pairs that were tried or passed over.
+-- What the functions that try pairs rest on: what they are lent serves again, the value of a pair, and the pairs that
+-- were tried or passed over.
 use Prim.Native.Nat.{ℕ, ◌+◌, ◌-◌, ◌≤◌, ◌<◌, max}
 use mathlib.Core.Path.{◌≡◌, refl, sym, ap, ◌∙◌}
 use mathlib.Core.Logic.{◌⊎◌}
@@ -8,13 +9,14 @@ use native.Mathlib.Omega.{arith}
 use borrow.Author.Count.{below_more}
 use lib.ListN.{length, drop, set, get_or, length-drop}
 use lib.Seq.{get_or-drop, get_or-set_same, get_or-set_other}
+use Rattle.basics.specs.Limits.{max_rows}
 use Rattle.std.proofs.lemmas.List.{drop-drop, drop-set-lt}
 use Rattle.line.specs.Line.{LineRows, best_from}
 use Rattle.line.specs.Cells.{line_bytes, found_from, next_from, worth_at}
 use Rattle.line.specs.Filled.{NextRows, Numbered, Filled, nexts_of}
 use Rattle.pairs.specs.Ready.{Most, Ready}
 use Rattle.pairs.specs.Pairs.{PairFit, SecondFit, Within, LeftAll, twice, with_pair}
-use Rattle.pairs.specs.Bounds.{Worth, Bound, PairValue}
+use Rattle.pairs.specs.Bounds.{Worth, Bound, PairValue, max_worth}
 use Rattle.pairs.proofs.Leaves.{twice_distinct}
 use Rattle.pairs.proofs.Classes.{most_none, within_none, within_begun, within_more, within_passed, within_joined}
 use Rattle.pairs.proofs.Numbers.{line_rows, numbered, value_le}
@@ -46,18 +48,19 @@ pub ready_again : {positions ends order perms : List ℕ} {m : ℕ} {left space 
 ready_again R a b e = record { rows = R.rows; each_left = a ∙ R.each_left; next_rows = next_rows_again R.next_rows b e }
 
 module _ (positions ends perms : List ℕ) (m : ℕ) where
-  -- the bytes for the first n crossing rows say what receiver 2 could hear with each, and what stands after those bytes is kept
+  -- the bytes for the first n crossing rows say what receiver 2 could hear with each, and what stands after those bytes
+  -- is kept
   pub record Worths (n : ℕ) (space₀ space : List ℕ) : Type 0 where
     pub worth : (w : ℕ) → w < n → Worth positions ends perms m 2 w (worth_at space w)
-    pub small : (w : ℕ) → w < n → worth_at space w ≤ 66
+    pub small : (w : ℕ) → w < n → worth_at space w ≤ max_worth
     pub frame : drop found_from space ≡ drop found_from space₀
 
 module _ {positions ends perms : List ℕ} {m : ℕ} where
   pub worths_none : (space : List ℕ) → Worths positions ends perms m 0 space space
   worths_none space = record { worth = λ w h. absurd (omega arith); small = λ w h. absurd (omega arith); frame = refl }
 
-  pub worths_more : {n r : ℕ} {space₀ space : List ℕ} → Worths positions ends perms m n space₀ space → n ≤ 64 → line_bytes + n < length space
-      → Worth positions ends perms m 2 n r → r ≤ 66 → Worths positions ends perms m (n + 1) space₀ (set space (line_bytes + n) r)
+  pub worths_more : {n r : ℕ} {space₀ space : List ℕ} → Worths positions ends perms m n space₀ space → n ≤ max_rows → line_bytes + n < length space
+      → Worth positions ends perms m 2 n r → r ≤ max_worth → Worths positions ends perms m (n + 1) space₀ (set space (line_bytes + n) r)
   worths_more {n} {r} {space₀} {space} W few long worth small =
       record {
         worth = below_more _ n (λ w h. rw (other w h) (W.worth w h)) (rw here worth);
@@ -103,7 +106,7 @@ module _ {positions ends order perms left₀ space₀ : List ℕ} {m : ℕ} (R :
       next_rows : NextRows (drop m positions) (drop m ends) space
       next_rows = next_rows_again R.next_rows same_space (same_later line_bytes next_from space₀ space (omega arith) kept)
 
-      pub line_value_le : v ≤ 65
+      pub line_value_le : v ≤ max_rows + 1
       line_value_le = omega (arith, best, value_le on_line next_rows rest each_rest)
 
       pub value_line : {qs : List ℕ} {w1 w2 r : ℕ} → LeftAll positions ends qs m w1 w2 (length positions) left → twice m w1 w2 ≡ false → Filled rest space → r ≡ with_pair m w1 w2 v

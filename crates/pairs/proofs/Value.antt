@@ -1,4 +1,5 @@
--- The value of a pair: what it leaves is a line, so the most that its labels hear is the best of the line and the pair's own rows.
+-- The value of a pair: what it leaves is a line, so the most that its labels hear is the best of the line and the
+-- pair's own rows.
 use Prim.Native.Nat.{ℕ, zero, suc, ◌+◌, ◌-◌, ◌≤◌, ◌<◌}
 use mathlib.Core.Path.{◌≡◌, refl, sym, ap, subst, ◌∙◌}
 use mathlib.Core.Bool.{Bool, true, false, cond}

@@ -1,4 +1,5 @@
--- What one receiver could hear with a crossing row: where rows in order of their starts cannot all be heard, the one that ends first is kept, and so no labels hear more.
+-- What one receiver could hear with a crossing row: where rows in order of their starts cannot all be heard, the one
+-- that ends first is kept, and so no labels hear more.
 use Prim.Native.Nat.{ℕ, zero, suc, ◌+◌, ◌≤◌, ◌<◌}
 use mathlib.Core.Path.{◌≡◌, refl, sym, ◌∙◌}
 use mathlib.Core.Logic.{◌≢◌}
@@ -16,7 +17,8 @@ use Rattle.pairs.specs.Pairs.{one}
 use Rattle.pairs.specs.Bounds.{labelled, HearsWith, hearable, WithRow}
 use Rattle.pairs.proofs.Bounds.{labelled_more, one_more, one_le}
 
--- How many can be heard of the rows below k, the count less one: where labels hear as many of them, the next row that they hear starts no earlier than the last end.
+-- How many can be heard of the rows below k, the count less one: where labels hear as many of them, the next row that
+-- they hear starts no earlier than the last end.
 pub record Scheduled (positions ends perms : List ℕ) (m x w k count last : ℕ) : Type 0 where
   pub small : count + m ≤ k + 2
   pub most : (l : List ℕ) → HearsWith positions ends perms m x w l → suc (labelled x (take k l)) ≤ count

@@ -1,4 +1,5 @@
--- Inner: How labels are found from pair to pair: whether a pair reaches the cap, and which labels are added to those found.
+-- Inner: How labels are found from pair to pair: whether a pair reaches the cap, and which labels are added to those
+-- found.
 use Rattle.std.specs.Prelude.{◌≡◌, ◌⊎◌, Bool, true, false, List, ℕ, suc, ◌<◌, take, drop}
 use Rattle.basics.specs.Limits.{max_rows}
 use Rattle.basics.specs.Lists.{at}
@@ -29,7 +30,8 @@ pub record Begun (reached : Bool) (space space' : List ℕ) : Type 0 where
   pub yes : reached ≡ true → space' ≡ space
   pub none : reached ≡ false → NoneFound max_rows space space'
 
--- Place k has row `order k` of the table: to the labels found for the rows at the first n places those are added that `left` permits them.
+-- Place k has row `order k` of the table: to the labels found for the rows at the first n places those are added that
+-- `left` permits them.
 pub record Added (order left : List ℕ) (n : ℕ) (space space' : List ℕ) : Type 0 where
   pub others : SameButFound space space'
   pub grown : (r x : ℕ) → r < max_rows → permits (found_at space r) x ≡ true → permits (found_at space' r) x ≡ true

@@ -1,4 +1,5 @@
--- Inner: Rows in order, the first m of which cross the cut: pairs of crossing rows, one for each receiver, and the permissions that a pair leaves.
+-- Inner: Rows in order, the first m of which cross the cut: pairs of crossing rows, one for each receiver, and the
+-- permissions that a pair leaves.
 use Rattle.std.specs.Prelude.{◌≡◌, ◌⊎◌, Bool, true, false, cond, ◌&&◌, ◌||◌, List, map, ℕ, zero, suc, ◌+◌, ◌≤◌, ◌<◌, leb, ltb, eqb, length}
 use Rattle.basics.specs.Lists.{at}
 use Rattle.labels.specs.Labels.{Assignment}
@@ -34,7 +35,8 @@ module _ (positions ends : List ℕ) (m : ℕ) where
   abbrev pub left_of : ℕ → ℕ → ℕ → ℕ → ℕ
   left_of w1 w2 k q = restrict q (leaves w1 w2 k 0) (leaves w1 w2 k 1) (leaves w1 w2 k 2)
 
--- labels that the pair (w1, w2) leaves, of which no two rows that do not cross overlap on one receiver; a pair is not one crossing row twice
+-- labels that the pair (w1, w2) leaves, of which no two rows that do not cross overlap on one receiver; a pair is not
+-- one crossing row twice
 pub record PairFit (positions ends perms : List ℕ) (m w1 w2 : ℕ) (labels : List ℕ) : Type 0 where
   pub distinct : w1 ≡ w2 → m ≤ w1
   pub fit : Assignment (length positions)

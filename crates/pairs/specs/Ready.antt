@@ -21,7 +21,8 @@ pub record Rows (positions ends order perms : List ℕ) (m : ℕ) : Type 0 where
   pub crossing : Crossing positions ends m
   pub row : (k : ℕ) → k < length positions → at order k < length positions
 
--- what the functions of pairs are lent: rows in order, m of them crossing the cut, a permission for each, the next rows of those that do not cross, and room
+-- what the functions of pairs are lent: rows in order, m of them crossing the cut, a permission for each, the next rows
+-- of those that do not cross, and room
 pub record Ready (positions ends order perms : List ℕ) (m : ℕ) (left space : List ℕ) : Type 0 where
   pub rows : Rows positions ends order perms m
   pub each_left : length left ≡ length positions

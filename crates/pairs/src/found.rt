@@ -8,7 +8,7 @@ ghost use Rattle.labels.specs.Labels.{heard};
 ghost use Rattle.line.specs.Cells.{line_bytes, next_from, core_bytes, worth_at};
 ghost use Rattle.line.specs.Filled.{Filled};
 ghost use Rattle.pairs.specs.Pairs.{gathered, Cleared};
-ghost use Rattle.pairs.specs.Bounds.{Worth};
+ghost use Rattle.pairs.specs.Bounds.{max_worth, Worth};
 ghost use Rattle.pairs.specs.Ready.{Ready};
 ghost use Rattle.pairs.specs.Found.{Found};
 ghost use Rattle.pairs.specs.Finding.{Reaching, Begun, Added, PairAdded};
@@ -19,7 +19,8 @@ use labels::permission::joined;
 use line::space::{FOUND_FROM, WORTH_FROM};
 
 impl OrderedRows<'_> {
-    // Whether an assignment reaches the cap, which none passes. If one does, the labels found are those that the rows have in such assignments; else they are as they were.
+    // Whether an assignment reaches the cap, which none passes. If one does, the labels found are those that the rows
+    // have in such assignments; else they are as they were.
     pub fn find_labels(self, perms: &[u8], cap: u8, left: &mut [u8], space: &mut [u8]) -> bool
         requires ready { Ready self.positions.now self.ends.now self.order.now perms.now self.m left.old space.old }
         requires cap_most { (l : List ℕ) → Cleared self.positions.now self.ends.now (gathered self.order.now perms.now) l → suc (heard l) ≤ cap }
@@ -43,7 +44,8 @@ impl OrderedRows<'_> {
         reached
     }
 
-    // Whether labels of the pair reach the cap, from what receiver 1 could hear with its crossing row. A pair whose bound does not reach the cap is passed over.
+    // Whether labels of the pair reach the cap, from what receiver 1 could hear with its crossing row. A pair whose
+    // bound does not reach the cap is passed over.
     fn reaches(
         self,
         perms: &[u8],
@@ -59,7 +61,7 @@ impl OrderedRows<'_> {
         requires within { (pair.w1 ≤ self.m) × (pair.w2 ≤ self.m) }
         requires worth_1 { Worth self.positions.now self.ends.now (gathered self.order.now perms.now) self.m 1 pair.w1 one }
         requires worth_2 { Worth self.positions.now self.ends.now (gathered self.order.now perms.now) self.m 2 pair.w2 (worth_at space.old pair.w2) }
-        requires small { (one ≤ 66) × (worth_at space.old pair.w2 ≤ 66) }
+        requires small { (one ≤ max_worth) × (worth_at space.old pair.w2 ≤ max_worth) }
         ensures reaching { Reaching self.entry.positions.now self.entry.ends.now (gathered self.entry.order.now perms.now) self.entry.m pair.w1 pair.w2 cap left.new space.new result }
         ensures space_unchanged { drop line_bytes space.new ≡ drop line_bytes space.old }
     {
@@ -69,7 +71,8 @@ impl OrderedRows<'_> {
         cap <= self.pair_best(perms, pair, left, space)
     }
 
-    // Adds the labels that the pair leaves its crossing rows, and those that the rows of its line have in labels that hear the most.
+    // Adds the labels that the pair leaves its crossing rows, and those that the rows of its line have in labels that
+    // hear the most.
     fn add_found(self, left: &[u8], space: &mut [u8])
         requires each_left { length left.now ≡ length self.positions.now }
         requires each_order { length self.order.now ≡ length self.positions.now }

@@ -3,16 +3,18 @@
 
 mod found;
 
-ghost use Rattle.std.specs.Prelude.{◌≡◌, ℕ, cond, ◌≤◌, ◌<◌, eqb, length, drop};
+ghost use Rattle.std.specs.Prelude.{◌≡◌, ℕ, cond, ◌+◌, ◌≤◌, ◌<◌, eqb, length, drop};
+ghost use Rattle.basics.specs.Limits.{max_rows};
 ghost use Rattle.line.specs.Cells.{line_bytes, found_from, core_bytes, worth_at};
 ghost use Rattle.pairs.specs.Pairs.{gathered, Cleared, beside, LeftAll, Leaving, twice, one, with_pair};
 ghost use Rattle.pairs.specs.Ready.{Most, Rows, Ready};
-ghost use Rattle.pairs.specs.Bounds.{hearable, WithRow, Worth, bound_of, PairValue};
+ghost use Rattle.pairs.specs.Bounds.{hearable, max_worth, WithRow, Worth, bound_of, PairValue};
 
 use labels::permission::{may_have, restricted, restricted_to};
 use line::space::WORTH_FROM;
 
-// Rows in order, the first m of which cross the cut: where each begins and ends, and the row of the table at each place.
+// Rows in order, the first m of which cross the cut: where each begins and ends, and the row of the table at each
+// place.
 #[derive(Clone, Copy)]
 pub struct OrderedRows<'a> {
     pub positions: &'a [u16],
@@ -23,7 +25,8 @@ pub struct OrderedRows<'a> {
     ghost within: { m ≤ length positions.now },
 }
 
-// The crossing row that each receiver hears, m where it hears none: no Option is plainer, since the search counts down from m, and none is tried first.
+// The crossing row that each receiver hears, m where it hears none: the search counts down from m, and tries none
+// first.
 #[derive(Clone, Copy)]
 struct Pair {
     w1: usize,
@@ -62,7 +65,7 @@ impl Pair {
     // The value of the pair from the value v of the line: 0 stays 0, and the pair's own rows are heard besides.
     #[tactic(auto, unfolding(crate::specs::Pairs::with_pair))]
     fn value(self, m: usize, v: u8) -> u8
-        requires { v ≤ 65 }
+        requires { v ≤ max_rows + 1 }
         ensures { result ≡ with_pair m self.w1 self.w2 v }
     {
         if v == 0 {
@@ -71,9 +74,10 @@ impl Pair {
         v + one_heard(m, self.w1) + one_heard(m, self.w2)
     }
 
-    // What no labels of the pair pass, from what each receiver could hear alone with its crossing row; 0 where there are none.
+    // What no labels of the pair pass, from what each receiver could hear alone with its crossing row; 0 where there
+    // are none.
     fn bound(self, m: usize, one: u8, two: u8) -> u8
-        requires { (one ≤ 66) × (two ≤ 66) }
+        requires { (one ≤ max_worth) × (two ≤ max_worth) }
         ensures { result ≡ bound_of m self.w1 self.w2 one two }
     {
         if one == 0 || two == 0 || self.is_twice(m) {
@@ -84,7 +88,8 @@ impl Pair {
     }
 }
 
-// What one receiver could hear of the first rows: one more than how many rows, and the end of the last of them, as early as it can be.
+// What one receiver could hear of the first rows: one more than how many rows, and the end of the last of them, as
+// early as it can be.
 #[derive(Clone, Copy)]
 struct Schedule {
     count: u8,
@@ -155,7 +160,8 @@ impl<'a> OrderedRows<'a> {
         true
     }
 
-    // What the pair leaves of each permission; false at once where it leaves a row no label. Crossing rows come first: most pairs that cannot be fail there.
+    // What the pair leaves of each permission; false at once where it leaves a row no label. Crossing rows come first:
+    // most pairs that cannot be fail there.
     fn leave(self, perms: &[u8], pair: Pair, left: &mut [u8]) -> bool
         requires rows { Rows self.positions.now self.ends.now self.order.now perms.now self.m }
         requires each_left { length left.old ≡ length self.positions.now }
@@ -167,7 +173,8 @@ impl<'a> OrderedRows<'a> {
         self.leave_line(perms, pair, left)
     }
 
-    // The most that labels of the pair hear, and one more; 0 where there are none: a cell of the line's working space has one byte for either.
+    // The most that labels of the pair hear, and one more; 0 where there are none: a cell of the line's working space
+    // has one byte for either.
     fn pair_best(self, perms: &[u8], pair: Pair, left: &mut [u8], space: &mut [u8]) -> u8
         requires { Ready self.positions.now self.ends.now self.order.now perms.now self.m left.old space.old }
         ensures value { PairValue self.entry.positions.now self.entry.ends.now (gathered self.entry.order.now perms.now) self.entry.m pair.w1 pair.w2 left.new space.new result }
@@ -192,13 +199,14 @@ impl<'a> OrderedRows<'a> {
         may_have(perms[usize::from(self.order[k])], label) && self.is_beside(w, k)
     }
 
-    // One more than what the receiver could hear alone with the crossing row w, or with none, whatever the other one does; 0 where w may not have it. The rows come in order of
-    // their starts, so of those that cannot all be heard the one that ends first is kept.
+    // One more than what the receiver could hear alone with the crossing row w, or with none, whatever the other one
+    // does; 0 where w may not have it. The rows come in order of their starts, so of those that cannot all be heard the
+    // one that ends first is kept.
     fn worth(self, perms: &[u8], label: u8, w: usize) -> u8
         requires rows { Rows self.positions.now self.ends.now self.order.now perms.now self.m }
         requires w_within { w ≤ self.m }
         ensures worth { Worth self.entry.positions.now self.entry.ends.now (gathered self.entry.order.now perms.now) self.entry.m label w result }
-        ensures small { result ≤ 66 }
+        ensures small { result ≤ max_worth }
     {
         if w < self.m && !may_have(perms[usize::from(self.order[w])], label) {
             return 0;
@@ -220,7 +228,7 @@ impl<'a> OrderedRows<'a> {
         requires rows { Rows self.positions.now self.ends.now self.order.now perms.now self.m }
         requires long { core_bytes ≤ length space.old }
         ensures worths { (w : ℕ) → w ≤ self.entry.m → Worth self.entry.positions.now self.entry.ends.now (gathered self.entry.order.now perms.now) self.entry.m 2 w (worth_at space.new w) }
-        ensures small { (w : ℕ) → w ≤ self.entry.m → worth_at space.new w ≤ 66 }
+        ensures small { (w : ℕ) → w ≤ self.entry.m → worth_at space.new w ≤ max_worth }
         ensures space_unchanged { drop found_from space.new ≡ drop found_from space.old }
     {
         for w in 0..self.m + 1 {
@@ -228,8 +236,8 @@ impl<'a> OrderedRows<'a> {
         }
     }
 
-    // The most that labels hear which obey every permission and leave no two meeting arcs on one receiver, and one more; 0 where there are none. A pair whose bound is not over the best so far is passed over.
-    // The lists that are written stay parameters; a struct was tried: of a struct of `&mut` lists each contract would also have to say that it lends the same lists as before, and as long ones.
+    // The most that labels hear which obey every permission and leave no two meeting arcs on one receiver, and one
+    // more; 0 where there are none. A pair whose bound is not over the best so far is passed over.
     pub fn best(self, perms: &[u8], left: &mut [u8], space: &mut [u8]) -> u8
         requires { Ready self.positions.now self.ends.now self.order.now perms.now self.m left.old space.old }
         ensures most { Most (Cleared self.entry.positions.now self.entry.ends.now (gathered self.entry.order.now perms.now)) result }

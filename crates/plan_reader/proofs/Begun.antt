@@ -1,4 +1,5 @@
--- Receivers and heads as items: what is known of bytes where the first item is a RECEIVER, a ROUND or a RUN, and where it is none.
+-- Receivers and heads as items: what is known of bytes where the first item is a RECEIVER, a ROUND or a RUN, and
+-- where it is none.
 use Prim.Native.Nat.{ℕ}
 use mathlib.Core.Path.{◌≡◌, refl, sym, ap, ◌∙◌}
 use mathlib.Core.Logic.{◌≢◌}

@@ -1,4 +1,4 @@
--- What stands first on bytes, case by case: which item it is and which bytes follow it.
+-- What stands first on bytes, case by case: which item it is, how many bytes it takes and which bytes follow it.
 use Prim.Native.Nat.{ℕ, ◌+◌, ◌-◌, ◌≤◌, ◌<◌, min}
 use mathlib.Core.Path.{◌≡◌, refl, sym, ap, ◌∙◌}
 use mathlib.Core.Logic.{◌≢◌, ⊎_elim}
@@ -23,7 +23,7 @@ use Rattle.plan_reader.specs.declared.PlanReader.{PlanReader}
 use Rattle.plan_reader.specs.declared.Item.{Item}
 use Rattle.plan_reader.specs.declared.Item.TheVariants as item
 use Rattle.plan_reader.specs.contracts.Item as ItemType
-use Rattle.plan_reader.specs.Items.{listen_at, receiver_at, head_at, item_of, after_item, left}
+use Rattle.plan_reader.specs.Items.{listen_at, receiver_at, head_at, item_of, after_item, item_bytes, left}
 
 -- one byte is one command
 pub one_command : (c d : ℕ) (s : List ℕ) → c ≢ d → begins c s ≡ true → begins d s ≡ false
@@ -77,26 +77,37 @@ module _ (bytes : List ℕ) {rest : List ℕ} (n : ℕ) (e : rest ≡ drop n byt
   pub rest_fits : length rest ≤ length bytes
   rest_fits = omega (arith, ap length e, length-drop n bytes)
 
+  pub rest_count : n ≤ length bytes → length bytes - length rest ≡ n
+  rest_count h = omega (arith, h, ap length e, length-drop n bytes)
+
   pub rest_stands : (tape : List ℕ) (at : ℕ) → bytes ≡ drop at tape → drop (at + (length bytes - length rest)) tape ≡ rest
   rest_stands tape at l =
       let taken = length bytes - length rest in
       let count : taken ≡ min n (length bytes) = omega (arith, ap length e, length-drop n bytes) in
       sym (drop-drop taken at tape) ∙ ap (drop taken) (sym l) ∙ ap (λ k. drop k bytes) count ∙ drop_min n bytes ∙ sym e
 
--- what is left after the first item is what stands some places further on
-passed : (s : List ℕ) → First s → (n : ℕ) × (after_item s ≡ drop n s)
-passed s (listen_first b i a) = (1 + operand_bytes LISTEN, a)
-passed s (receiver_first b i a) = (1 + operand_bytes RECEIVER, a)
-passed s (stop_first b i a) = (1 + operand_bytes STOP, a)
-passed s (head_first kind b i a) = (1 + operand_bytes (kind_command kind), a)
-passed s (none_first l r o u i a) = (0, a)
+-- the first item lies inside, and what is left after it is what stands as many places further on as it takes bytes
+pub passed : (s : List ℕ) → (item_bytes (item_of s) ≤ length s) × (after_item s ≡ drop (item_bytes (item_of s)) s)
+unfolding item_bytes operand_bytes
+passed s = go (first s)
+  where
+    go : First s → (item_bytes (item_of s) ≤ length s) × (after_item s ≡ drop (item_bytes (item_of s)) s)
+    go (listen_first b i a) = (rw i (listen_whole s b), rw i a)
+    go (receiver_first b i a) = (rw i (receiver_whole s b), rw i a)
+    go (stop_first b i a) = (rw i (((begins_iff STOP s).0 b).0), rw i a)
+    go (head_first Round b i a) = (rw i (head_whole s Round b), rw i a)
+    go (head_first Run b i a) = (rw i (head_whole s Run b), rw i a)
+    go (none_first l r o u i a) = (rw i (omega arith), rw i a)
 
 module _ (bytes : List ℕ) {rest : List ℕ} (e : after_item bytes ≡ rest) where
   pub item_fits : length rest ≤ length bytes
-  item_fits = let p = passed bytes (first bytes) in rest_fits bytes p.0 (sym e ∙ p.1)
+  item_fits = rest_fits bytes (item_bytes (item_of bytes)) (sym e ∙ (passed bytes).1)
 
   pub item_stands : (tape : List ℕ) (at : ℕ) → bytes ≡ drop at tape → drop (at + (length bytes - length rest)) tape ≡ after_item bytes
-  item_stands tape at l = let p = passed bytes (first bytes) in rest_stands bytes p.0 (sym e ∙ p.1) tape at l ∙ sym e
+  item_stands tape at l = rest_stands bytes (item_bytes (item_of bytes)) (sym e ∙ (passed bytes).1) tape at l ∙ sym e
+
+  pub item_count : length bytes - length rest ≡ item_bytes (item_of bytes)
+  item_count = rest_count bytes (item_bytes (item_of bytes)) (sym e ∙ (passed bytes).1) (passed bytes).0
 
 -- ---- an item that is another command, by the number of its variant
 

@@ -1,5 +1,6 @@
 -- Laws of plan tapes as they are read, and the theorem about which are taken.
 pub mod Items
+pub mod Positions
 pub mod Listens
 pub mod Begun
 pub mod Rises
@@ -9,5 +10,5 @@ pub mod Made
 pub mod Places
 pub mod Witness
 pub mod Taken
-pub mod Request4
+pub mod Gaps
 pub mod Sample

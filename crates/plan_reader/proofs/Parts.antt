@@ -1,4 +1,5 @@
--- What the tests of a plan tape say: of the LISTENs of one receiver, of the two receivers beside each other, and of all that is stated.
+-- What the tests of a plan tape say: of the LISTENs of one receiver, of the two receivers beside each other, and of
+-- all that is stated.
 use Prim.Native.Nat.{ℕ, ◌+◌, ◌≤◌, ◌<◌}
 use mathlib.Core.Path.{◌≡◌, refl, sym, ap, ◌∙◌}
 use mathlib.Core.Logic.Iff

@@ -1,4 +1,5 @@
--- Where each row of a table stands by what a plan tape states: under a receiver, with its window, or nowhere; and that such rows pass check 6, lie in the hours 0 to R and are apart.
+-- Where each row of a table stands by what a plan tape states: under a receiver, with its window, or nowhere; and that
+-- such rows pass check 6, lie in the hours 0 to R and are apart.
 use Prim.Native.Nat.{ℕ, zero, suc, ◌≤◌}
 use mathlib.Core.Path.{◌≡◌, refl, sym, ◌∙◌}
 use mathlib.Core.Logic.{◌≢◌, ◌⊎◌, inl, inr}
@@ -101,7 +102,7 @@ free_window : (kind : Kind) (R : ℕ) → 2 ≤ R → Window kind R 0 1
 free_window Round R h = (omega arith, omega arith)
 free_window Run R h = (omega arith, omega arith)
 
--- "for a run, hours 0 to R are supposed": every window lies in them
+-- in a run both receivers are open from 0 to R: every window lies in that
 pub opened : (kind : Kind) (R : ℕ) (row : Row) (label : ℕ) → label ≤ 2 → row.end ≤ R → Open kind (hours_from 0 R 0 R) row label
 opened Round R row label k h = tt
 opened Run R row zero k h = tt

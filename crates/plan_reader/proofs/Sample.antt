@@ -1,12 +1,19 @@
--- Worked examples: what stands at each place of a tape; tapes that are taken and tapes that are not, at each limit.
+-- Worked examples: what stands at each place of a tape; tapes that are taken and tapes that are not, at each limit; and
+-- a table, labels and a buffer from which the writer makes a tape.
 use Prim.Native.Nat.{ℕ}
 use mathlib.Core.Path.{◌≡◌, refl}
 use mathlib.Core.Bool.{true, false}
 use mathlib.Core.List.{List, [], ◌∷◌, ◌++◌}
+use lib.ListN.{replicate}
+use Rattle.window.specs.Hours.{no_hours}
 use Rattle.window.specs.declared.Kind.TheVariants.{Round, Run}
+use Rattle.table.specs.Tables.{setting_of, table}
+use Rattle.plan_tape.specs.Written.{written}
+use Rattle.plan_tape.proofs.Sample.{session_tape}
 use Rattle.plan_reader.specs.declared.Item.TheVariants.{Head, Receiver, Listen, Stop}
 use Rattle.plan_reader.specs.Items.{head_of, read_of, item_of, after_item, item_at}
 use Rattle.plan_reader.specs.Judged.{is_plan_tape}
+use Rattle.plan_reader.specs.Taken.{WriterMakes}
 use Rattle.std.specs.Prelude.{Some, None, drop}
 
 -- ROUND or RUN with R, the LISTENs of receivers 1 and 2, and STOP
@@ -23,7 +30,8 @@ run = tape (0x11 ∷ 0x00 ∷ 0x64 ∷ [])
 abbrev listen : ℕ → ℕ → ℕ → List ℕ
 listen row start end = 0x30 ∷ row ∷ 0x00 ∷ start ∷ 0x00 ∷ end ∷ []
 
--- Taken: no LISTEN at all; row numbers with holes, up to 63; touching windows; an end at tick 0; in a run an end at R; in a round, windows of beacons that send all day, one on each receiver.
+-- Taken: no LISTEN at all; row numbers with holes, up to 63; touching windows; an end at tick 0; in a run an end at R;
+-- in a round, windows of beacons that send all day, one on each receiver.
 pub taken :
     (is_plan_tape (round [] []) ≡ true)
     × (is_plan_tape (round (listen 63 0 9) (listen 5 1 8)) ≡ true)
@@ -35,7 +43,10 @@ pub taken :
 unfolding is_plan_tape
 taken = (refl, refl, refl, refl, refl, refl, refl)
 
--- Not taken: row 64; a row twice, on one receiver and on both; in a run, a start that is the end; in a round an end at R, a start and end at R, an all_day window and another one on its receiver; in a run an end before the start; starts that do not rise; windows that overlap, also over tick 0; receivers exchanged; a LISTEN cut short; STOP early; no STOP; a byte after STOP.
+-- Not taken: row 64; a row twice, on one receiver and on both; in a run, a start that is the end; in a round an end at
+-- R, a start and end at R, a window of a beacon that sends all day and another one on its receiver; in a run an end
+-- before the start; starts that do not rise; windows that overlap, also over tick 0; receivers exchanged; RECEIVER 0 in
+-- the place of 1; a LISTEN cut short; STOP early; no STOP; a byte after STOP.
 pub not_taken :
     (is_plan_tape (round (listen 64 0 9) []) ≡ false)
     × (is_plan_tape (round (listen 5 0 9 ++ listen 5 20 30) []) ≡ false)
@@ -50,14 +61,15 @@ pub not_taken :
     × (is_plan_tape (round (listen 0 0 20 ++ listen 1 19 30) []) ≡ false)
     × (is_plan_tape (round (listen 0 5 9 ++ listen 1 90 6) []) ≡ false)
     × (is_plan_tape ((0x10 ∷ 0x00 ∷ 0x64 ∷ []) ++ (0x20 ∷ 0x02 ∷ 0x20 ∷ 0x01 ∷ 0x7F ∷ [])) ≡ false)
+    × (is_plan_tape ((0x10 ∷ 0x00 ∷ 0x64 ∷ []) ++ (0x20 ∷ 0x00 ∷ 0x20 ∷ 0x02 ∷ 0x7F ∷ [])) ≡ false)
     × (is_plan_tape (round (0x30 ∷ 0x00 ∷ []) []) ≡ false)
     × (is_plan_tape (round (0x7F ∷ []) []) ≡ false)
     × (is_plan_tape ((0x10 ∷ 0x00 ∷ 0x64 ∷ []) ++ (0x20 ∷ 0x01 ∷ 0x20 ∷ 0x02 ∷ [])) ≡ false)
     × (is_plan_tape (round [] [] ++ (0x7F ∷ [])) ≡ false)
 unfolding is_plan_tape
-not_taken = (refl, refl, refl, refl, refl, refl, refl, refl, refl, refl, refl, refl, refl, refl, refl, refl, refl)
+not_taken = (refl, refl, refl, refl, refl, refl, refl, refl, refl, refl, refl, refl, refl, refl, refl, refl, refl, refl)
 
--- "R is 2 to 43,200"
+-- R is 2 to 43,200
 abbrev rounds : ℕ → ℕ → List ℕ
 rounds high low = tape (0x10 ∷ high ∷ low ∷ []) [] []
 
@@ -69,7 +81,8 @@ pub limits :
 unfolding is_plan_tape
 limits = (refl, refl, refl, refl)
 
--- What stands at each place of a tape and what is left after it, and places where nothing can be read: a command of a fleet tape, a LISTEN that is cut short, past the end.
+-- What stands at each place of a tape and what is left after it, and places where nothing can be read: a command of a
+-- fleet tape, a LISTEN that is cut short, past the end.
 abbrev heard : List ℕ
 heard = run (listen 7 2 4) []
 
@@ -91,3 +104,18 @@ pub items :
     × (item_at short 0 ≡ (None, short))
 unfolding item_of after_item
 items = (refl, refl, refl, refl, refl, refl, refl, refl, refl)
+
+-- On this tape receiver 1 hears two rows whose windows touch at tick 10: the writer makes it from a table with a gap
+-- of 0, which is that of plan tapes, and with a longer gap it has no such plan.
+pub made : WriterMakes session_tape
+unfolding written
+made =
+    record {
+      table = table (setting_of Round 100 0 no_hours) (10 ∷ 20 ∷ 25 ∷ 90 ∷ []) (30 ∷ 40 ∷ 50 ∷ 10 ∷ []) (replicate 4 0);
+      labels = 1 ∷ 2 ∷ 0 ∷ 1 ∷ [];
+      buffer = replicate 26 9;
+      gap = refl;
+      hours = tt;
+      accepted = refl;
+      bytes = refl;
+    }

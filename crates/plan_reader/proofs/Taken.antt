@@ -14,7 +14,7 @@ use Rattle.table.specs.Tables.{setting_of, table, Plan, Valid}
 use Rattle.plan_tape.specs.Stated.{stated}
 use Rattle.plan_tape.specs.Written.{tape_of, written}
 use Rattle.plan_tape.proofs.Accepted.{tape_bytes_heard}
-use Rattle.plan_tape.proofs.Demand.{demand_2}
+use Rattle.plan_tape.proofs.Writes.{writes_plan_tape}
 use Rattle.plan_tape.proofs.Same.{accepted_tape}
 use Rattle.plan_reader.specs.Judged.{is_plan_tape}
 use Rattle.plan_reader.specs.Taken.{AllHours, WriterMakes}
@@ -29,13 +29,14 @@ all_hours : (kind : Kind) (R : ℕ) → AllHours kind R (hours_from 0 R 0 R)
 all_hours Round R = tt
 all_hours Run R = refl
 
--- the tape of a plan, with a gap of 0 and both receivers open all the time; for the buffer serves the tape itself: only its length matters
+-- the tape of a plan, with a gap of 0 and both receivers open all the time; for the buffer serves the tape itself: only
+-- its length matters
 pub plan_made : (kind : Kind) (R : ℕ) (starts ends marks labels : List ℕ) → let t = table (setting_of kind R 0 (hours_from 0 R 0 R)) starts ends marks in Valid t → Plan t labels → WriterMakes (tape_of t labels)
 plan_made kind R starts ends marks labels valid plan =
     let t = table (setting_of kind R 0 (hours_from 0 R 0 R)) starts ends marks in
     let tape = tape_of t labels in
-    let demand = demand_2 t labels tape (lists_pass t valid labels plan.each) (table_passes t valid (hours_pass kind R)) in
-    let accepted : (written t labels tape).answer.refusal ≡ Accepted = demand.accepted.1 (plan, omega (arith, tape_bytes_heard t labels)) in
+    let writes = writes_plan_tape t labels tape (lists_pass t valid labels plan.each) (table_passes t valid (hours_pass kind R)) in
+    let accepted : (written t labels tape).answer.refusal ≡ Accepted = writes.accepted.1 (plan, omega (arith, tape_bytes_heard t labels)) in
     record {
       table = t;
       labels = labels;
@@ -54,7 +55,7 @@ taken_made tape h e =
     let is-tape : tape_of (witness s) (labels s) ≡ tape = witness_stated s f.1 ∙ sym (formed_bytes tape h f.0) in
     rw is-tape at (plan_made s.kind s.ticks (starts s) (ends s) (marks s) (labels s) (witness_valid s f.1) (witness_plan s f.1))
 
--- "exactly the tapes the writer can write for some table and labels"
+-- what passes the test is what the writer writes for some table and labels, and nothing else
 pub taken_iff : (tape : List ℕ) → Bytes tape → (is_plan_tape tape ≡ true) ↔ WriterMakes tape
 taken_iff tape h = (taken_made tape h, λ m. rw m.bytes at (made_taken m.table m.labels m.buffer m.accepted))
 

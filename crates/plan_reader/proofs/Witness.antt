@@ -1,4 +1,5 @@
--- The table and the labels that a plan tape tells of, with 64 rows: the table is valid, the labels are a plan of it, and its tape states what the plan tape does.
+-- The table and the labels that a plan tape tells of, with 64 rows: the table is valid, the labels are a plan of it,
+-- and its tape states what the plan tape does.
 use Prim.Native.Nat.{ℕ, ◌≤◌, ◌<◌}
 use mathlib.Core.Path.{◌≡◌, refl, sym, ap, ◌∙◌}
 use mathlib.Core.Logic.Iff

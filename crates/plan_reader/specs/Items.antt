@@ -1,5 +1,6 @@
--- Believed: What stands first on what is left of a plan tape: a command with its operands, and the bytes after it.
-use Rattle.std.specs.Prelude.{ℕ, ◌≡◌, true, false, Option, Some, None, cond, List, [], ◌∷◌, get_or, drop}
+-- Believed: What stands first on what is left of a plan tape: a command with its operands, and the bytes after it;
+-- and what the reader gives at its position and where it stands then (docs/RULES.md, Plan tapes).
+use Rattle.std.specs.Prelude.{ℕ, ◌+◌, ◌≡◌, true, false, Option, Some, None, cond, List, [], ◌∷◌, get_or, drop}
 use Rattle.window.specs.declared.Kind.{Kind}
 use Rattle.window.specs.declared.Kind.TheVariants.{Round, Run}
 use Rattle.tape.specs.Commands.{ROUND, RUN, RECEIVER, LISTEN, STOP, operand_bytes, begins, after}
@@ -21,15 +22,15 @@ read_of row start end = record { row = row; window = record { start = start; end
 abbrev pub stated_listen : Read → Listen
 stated_listen w = listen_of w.row w.window.start w.window.end
 
--- "LISTEN: row (8), start (16), end (16)"
+-- the row in a byte, and start and end in 16 bits each
 abbrev pub listen_at : List ℕ → Read
 listen_at s = read_of (get_or s 1 0) (word_at s 2) (word_at s 4)
 
--- "RECEIVER: 1 or 2 (8 bits)"
+-- the receiver's number in a byte
 abbrev pub receiver_at : List ℕ → Item
 receiver_at s = item.Receiver (get_or s 1 0)
 
--- "ROUND, RUN: R (16 bits)"
+-- R in 16 bits
 abbrev pub head_at : Kind → List ℕ → Item
 head_at kind s = item.Head (head_of kind (word_at s 1))
 
@@ -53,25 +54,47 @@ after_item s =
     (cond (begins ROUND s) (after ROUND s)
     (cond (begins RUN s) (after RUN s) s))))
 
+-- how many bytes an item takes, its command's byte among them; none is taken where nothing is given
+unfoldable pub item_bytes : Option Item → ℕ
+item_bytes None = 0
+item_bytes (Some (item.Head head)) = 3
+item_bytes (Some (item.Receiver number)) = 2
+item_bytes (Some (item.Listen listen)) = 6
+item_bytes (Some item.Stop) = 1
+
 -- what is left of the tape from the reader's position on
 abbrev pub left : PlanReader → List ℕ
 left r = drop r.at r.tape.now
 
--- what the reader gives of what is left of its tape, and what is left then
+-- what the reader gives: the item that stands first on what is left of its tape. The bytes after it are left then:
+-- the reader keeps its tape, and stands as many bytes further on as the item takes.
 abbrev pub TakesItem : PlanReader → Option Item → PlanReader → Type 0
-TakesItem old given new = (given ≡ item_of (left old)) × (left new ≡ after_item (left old)) × (new.tape ≡ old.tape)
+TakesItem old given new =
+    (given ≡ item_of (left old))
+    × (left new ≡ after_item (left old))
+    × (new.tape ≡ old.tape)
+    × (new.at ≡ old.at + item_bytes given)
 
--- what it gives if it is asked for a LISTEN, where one stands first: the LISTEN, and the bytes after it are left; else none, and the reader stays
+-- What it gives if it is asked for a LISTEN: that which stands first, and the reader stands 6 bytes further on, after
+-- it; else none, and the reader is the same.
 abbrev pub ReadsListen : PlanReader → Option Read → PlanReader → Type 0
-ReadsListen old None new = (begins LISTEN (left old) ≡ false) × (left new ≡ left old)
-ReadsListen old (Some w) new = (begins LISTEN (left old) ≡ true) × (w ≡ listen_at (left old)) × (left new ≡ after LISTEN (left old))
+ReadsListen old None new = (begins LISTEN (left old) ≡ false) × (new ≡ old)
+ReadsListen old (Some w) new =
+    (begins LISTEN (left old) ≡ true)
+    × (w ≡ listen_at (left old))
+    × (left new ≡ after LISTEN (left old))
+    × (new.tape ≡ old.tape)
+    × (new.at ≡ old.at + 6)
 
--- the same by the LISTENs that stand one after the other: it is the first of those with which the rest begins; the others are left, and so is what follows them
+-- the same by the LISTENs that stand one after the other: it is the first of those with which the rest begins; the
+-- others are left, and so is what follows them
 abbrev pub TakesListen : PlanReader → Option Read → PlanReader → Type 0
-TakesListen old None new =
-    (listens_in (left old) ≡ []) × (after_listens (left old) ≡ left new) × (left new ≡ left old) × (new.tape ≡ old.tape)
+TakesListen old None new = (listens_in (left old) ≡ []) × (after_listens (left old) ≡ left new) × (new ≡ old)
 TakesListen old (Some w) new =
-    (listens_in (left old) ≡ stated_listen w ∷ listens_in (left new)) × (after_listens (left old) ≡ after_listens (left new)) × (new.tape ≡ old.tape)
+    (listens_in (left old) ≡ stated_listen w ∷ listens_in (left new))
+    × (after_listens (left old) ≡ after_listens (left new))
+    × (new.tape ≡ old.tape)
+    × (new.at ≡ old.at + 6)
 
 -- what stands at a place of a tape, and the bytes after it
 abbrev pub item_at : List ℕ → ℕ → Option Item × List ℕ

@@ -1,4 +1,5 @@
--- Inner: The plain test for a tape that the writer can make, clause for clause: its form, R, and each LISTEN beside the others. proofs/Taken.antt has that it says the same.
+-- Inner: The plain test for a tape that the writer can make, clause for clause: its form, R, and each LISTEN beside the
+-- others. proofs/Taken.antt has that it says the same.
 use Rattle.std.specs.Prelude.{ℕ, Bool, true, not, ◌&&◌, ◌||◌, List, [], ◌∷◌, ltb, eqb, get_or}
 use Rattle.std.specs.List.{list_all}
 use Rattle.basics.specs.Limits.{max_rows}
@@ -15,7 +16,7 @@ unfoldable pub is_receiver : ℕ → List ℕ → Bool
 unfolding begins
 is_receiver number s = begins RECEIVER s && eqb (get_or s 1 0) number
 
--- "ROUND or RUN; RECEIVER 1; its LISTENs ..; RECEIVER 2; its LISTENs likewise; STOP", and nothing after it
+-- ROUND or RUN comes first, then receiver 1 with its LISTENs, receiver 2 with its own, and STOP as the last byte
 unfoldable pub is_formed : List ℕ → Bool
 unfolding begins is_receiver after_head after_part
 is_formed tape =

@@ -1,5 +1,6 @@
--- Believed: Which tapes the plan tape reader takes (paper 02, request 1): "exactly the tapes the writer can write for some table and labels; for a run, hours 0 to R are supposed."
--- Request 4: "plan tapes are still read with g of 0".
+-- Believed: Which tapes the plan tape reader takes: those that the writer writes for some table and labels, and no
+-- others. A plan tape says nothing of a gap and of hours, so the table has a gap of 0, and in a run both receivers are
+-- open from 0 to R (docs/RULES.md, Plan tapes).
 use Rattle.refusals.specs.Refusals.{Accepted}
 use Rattle.std.specs.Prelude.{ℕ, ◌≡◌, List, take}
 use Rattle.window.specs.declared.Kind.{Kind}
@@ -8,12 +9,13 @@ use Rattle.window.specs.Hours.{hours_from}
 use Rattle.table.specs.Tables.{Table}
 use Rattle.plan_tape.specs.Written.{written}
 
--- "for a run, hours 0 to R are supposed"; in a round hours are neither checked nor used
+-- in a run both receivers are open all the time; in a round hours are neither checked nor used
 abbrev pub AllHours : Kind → ℕ → List (List ℕ) → Type 0
 AllHours Round R hours = Unit {0}
 AllHours Run R hours = hours ≡ hours_from 0 R 0 R
 
--- There are a table with a gap of 0, labels and a buffer for which the writer accepts and writes exactly these bytes. Numbers of an accepted table and its labels fit their 16 and 8 bits: the checks bound them.
+-- There are a table with a gap of 0, labels and a buffer for which the writer accepts and writes exactly these bytes.
+-- Numbers of an accepted table and its labels fit their 16 and 8 bits: the checks bound them.
 pub record WriterMakes (tape : List ℕ) : Type 0 where
   pub table : Table
   pub labels : List ℕ
@@ -21,5 +23,5 @@ pub record WriterMakes (tape : List ℕ) : Type 0 where
   pub gap : table.setting.gap ≡ 0
   pub hours : AllHours table.setting.kind table.setting.ticks table.setting.hours
   pub accepted : (written table labels buffer).answer.refusal ≡ Accepted
-  -- "The writer reports that length as its count"
+  -- the writer's count is how many bytes it has written
   pub bytes : take (written table labels buffer).answer.count (written table labels buffer).buffer ≡ tape

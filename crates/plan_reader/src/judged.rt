@@ -1,4 +1,4 @@
-// Whether a tape is one that the writer can make.
+// Whether a tape is one that the writer can make (docs/RULES.md, Plan tapes).
 ghost use Rattle.std.specs.Prelude.{◌≡◌, ◌↔◌, true};
 ghost use Rattle.std.specs.Iterator.{YieldsFirstBy, item_count};
 ghost use Rattle.std.specs.List.{list_all};
@@ -39,7 +39,7 @@ fn is_receiver(reader: &mut PlanReader, number: u8) -> bool
     reader.next() == Some(Item::Receiver(number))
 }
 
-// The LISTENs that stand first. A `while` on the lent reader: it goes on after them, which the caller needs.
+// Takes the LISTENs that stand first: the reader goes on after them.
 fn take_listens<'a>(reader: &mut PlanReader<'a>) -> Listens<'a>
     ensures these { listens_left result ≡ listens_in (left reader.old) }
     ensures rest { left reader.new ≡ after_listens (left reader.old) }
@@ -81,7 +81,7 @@ fn is_listen(head: Head, listen: Listen) -> bool
     usize::from(listen.row) < MAX_ROWS && listen.window.is_proper(head.kind, head.ticks)
 }
 
-// Whether the LISTENs can be those of one receiver. The walk stays a `while`: each LISTEN is held against those that are left.
+// Whether the LISTENs can be those of one receiver: each is held against those that are left.
 #[tactic(auto, unfolding(crate::specs::Judged::is_part))]
 fn is_part(mut listens: Listens, head: Head) -> bool
     ensures { result ≡ is_part head.kind head.ticks (listens_left listens.entry) }

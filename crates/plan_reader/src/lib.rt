@@ -20,14 +20,14 @@ pub struct PlanReader<'a> {
     pub at: usize,
 }
 
-// "ROUND, RUN: R (16 bits)".
+// ROUND or RUN with its R.
 #[derive(Clone, Copy, Debug, PartialEq, Eq)]
 pub struct Head {
     pub kind: Kind,
     pub ticks: u16,
 }
 
-// "LISTEN: row (8), start (16), end (16)".
+// LISTEN with its row and the row's window.
 #[derive(Clone, Copy, Debug, PartialEq, Eq)]
 pub struct Listen {
     pub row: u8,
@@ -88,14 +88,14 @@ fn split(tape: &[u8]) -> Option<(Item, &[u8])>
 }
 
 impl<'a> PlanReader<'a> {
-    // A reader at the beginning of a tape.
+    // A reader at the beginning of a tape, which it keeps as it is.
     pub fn new(tape: &'a [u8]) -> PlanReader<'a>
         ensures { (result.tape ≡ tape.entry) × (result.at ≡ 0) }
     {
         PlanReader { tape, at: 0 }
     }
 
-    // The reader at another place of its tape.
+    // The reader at another place of its tape. Past the end it is as at the end: nothing is left.
     pub fn moved(self, at: usize) -> PlanReader<'a>
         ensures { (result.tape ≡ self.entry.tape) × (result.at ≡ at) }
     {
@@ -110,7 +110,7 @@ impl<'a> PlanReader<'a> {
         &self.tape[self.at.min(self.tape.len())..]
     }
 
-    // Takes the LISTEN that stands first; the reader stays where none does.
+    // Takes the LISTEN that stands first, and stands after it; the reader stays where none does.
     #[tactic(auto, using(crate::proofs::Listens::no_listen))]
     pub fn listen(&mut self) -> Option<Listen>
         ensures reads { ReadsListen self.old result self.new }
@@ -123,12 +123,14 @@ impl<'a> PlanReader<'a> {
     }
 }
 
-// Takes the item that stands first; where none does the reader stays. `listen` does not call it: a walk over LISTENs tests for one command alone.
+// Takes the item that stands first, and stands after it; where none does the reader stays. `listen` does not call it:
+// a walk over LISTENs tests for one command alone.
 impl<'a> Iterator for PlanReader<'a> {
     type Item = Item;
 
     ghost next_gives = { TakesItem };
 
+    #[tactic(auto, unfolding(crate::specs::Items::item_bytes))]
     fn next(&mut self) -> Option<Item> {
         let left = self.left();
         let (item, rest) = split(left)?;
@@ -137,7 +139,8 @@ impl<'a> Iterator for PlanReader<'a> {
     }
 }
 
-// R, as the ROUND or RUN with which a tape begins has it. It is 0 where neither does, and no Option: so the definition has it, and `player` needs one comparison, since no first tick is below 0.
+// R, as the ROUND or RUN with which a tape begins has it; 0 where neither does. No first tick is below 0, so that
+// `player` needs one comparison.
 pub fn ticks_of(tape: &[u8]) -> u16
     ensures { result ≡ ticks_at tape.now }
 {

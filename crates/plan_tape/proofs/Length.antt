@@ -1,4 +1,4 @@
--- How long a plan tape is: "8 + 6 × count bytes".
+-- How long a plan tape is: 8 bytes, and 6 for each heard row.
 use Prim.Native.Nat.{ℕ, zero, suc, ◌+◌, ◌*◌, ◌≤◌}
 use mathlib.Core.Path.{◌≡◌, refl}
 use mathlib.Core.Bool.{cond}
@@ -13,7 +13,7 @@ use Rattle.basics.specs.Lists.{at}
 use Rattle.labels.specs.Labels.{heard, hears}
 use Rattle.labels.proofs.Heard.{heard_nil, heard_more, heard_all}
 use Rattle.window.specs.declared.Kind.{Kind}
-use Rattle.plan_tape.specs.PlanTapes.{rows_by_start, rows_of, listens, plan_tape}
+use Rattle.plan_tape.specs.PlanTapes.{rows_by_start, rows_of, listens, plan_tape, tape_bytes}
 use Rattle.plan_tape.proofs.Order.{rows_length}
 
 pub listens_length : (starts ends rows : List ℕ) → length (listens starts ends rows) ≡ 6 * length rows
@@ -48,6 +48,6 @@ module _ (starts labels : List ℕ) where
         heard_all labels (length labels) refl,
       )
 
-  pub tape_length : (kind : Kind) (R : ℕ) (ends : List ℕ) → length (plan_tape kind R starts ends labels) ≡ 8 + 6 * heard labels
+  pub tape_length : (kind : Kind) (R : ℕ) (ends : List ℕ) → length (plan_tape kind R starts ends labels) ≡ tape_bytes labels
   unfolding plan_tape
   tape_length kind R ends = simp length-append (omega (arith, listens_heard ends))

@@ -3,8 +3,9 @@ pub mod Order
 pub mod Length
 pub mod Listing
 pub mod Accepted
+pub mod Before9
 pub mod Reading
 pub mod Same
-pub mod Demand
-pub mod Request4
+pub mod Writes
+pub mod Gaps
 pub mod Sample

@@ -1,4 +1,5 @@
--- A plan tape states exactly its plan: from its bytes alone one reads the kind, R and, for each receiver, the rows with their windows; a row stands under a receiver exactly if its label is that receiver.
+-- A plan tape states exactly its plan: from its bytes alone one reads the kind, R and, for each receiver, the rows with
+-- their windows; a row stands under a receiver exactly if its label is that receiver.
 use Prim.Native.Nat.{ℕ, ◌≤◌, ◌<◌}
 use mathlib.Core.Path.{◌≡◌, refl, ap, ◌∙◌}
 use mathlib.Core.Logic.{◌≢◌, ◌↔◌}
@@ -151,7 +152,7 @@ module _ (starts ends labels : List ℕ) where
           let m = Memᴰ.map (window starts ends) (member_rows starts labels receiver w.row (length labels) (past_end labels w.row receiver h k.0) k.0) in
           Memᴰ.cast (rw (← k.1, ← k.2) refl) m
 
-  -- "its tape states exactly that plan"
+  -- a plan's tape states the plan, and nothing else
   pub tape_states : (kind : Kind) (R : ℕ) → States kind R starts ends labels (stated (plan_tape kind R starts ends labels))
   tape_states kind R =
       rw (tape_read starts ends kind R labels)

@@ -1,4 +1,5 @@
--- Believed: What bytes state where they are read as a plan tape, by the bytes alone: kind, R, and the LISTENs that stand under each receiver. Of bytes that are no plan tape it is what can be read of them from the front.
+-- Believed: What bytes state where they are read as a plan tape, by the bytes alone: kind, R, and the LISTENs that
+-- stand under each receiver. Of bytes that are no plan tape it is what can be read of them from the front.
 use Rattle.std.specs.Prelude.{ℕ, cond, ◌||◌, List, [], ◌∷◌, eqb}
 use Rattle.window.specs.declared.Kind.{Kind}
 use Rattle.window.specs.declared.Kind.TheVariants.{Round, Run}
@@ -6,7 +7,7 @@ use Rattle.tape.specs.Commands.{ROUND, RUN, RECEIVER, LISTEN, begins, after}
 use Rattle.tape.specs.Words.{joined, word_at}
 use Rattle.plan_tape.specs.PlanTapes.{kind_command}
 
--- "LISTEN: row (8), start (16), end (16)"
+-- what a LISTEN tells
 pub record Listen : Type 0 where
   pub row : ℕ
   pub start : ℕ
@@ -37,7 +38,7 @@ after_listens (command ∷ row ∷ a ∷ b ∷ c ∷ []) = command ∷ row ∷ a
 after_listens (command ∷ row ∷ a ∷ b ∷ c ∷ d ∷ rest) =
     cond (eqb command LISTEN) (after_listens rest) (command ∷ row ∷ a ∷ b ∷ c ∷ d ∷ rest)
 
--- the LISTENs of the receiver with which the bytes begin: "RECEIVER 1; its LISTENs"
+-- the LISTENs after the RECEIVER with which the bytes begin; none where none stands first
 unfoldable pub part_in : List ℕ → List Listen
 unfolding listens_in begins
 part_in s = cond (begins RECEIVER s) (listens_in (after RECEIVER s)) []
@@ -47,7 +48,7 @@ unfoldable pub after_part : List ℕ → List ℕ
 unfolding after_listens begins
 after_part s = cond (begins RECEIVER s) (after_listens (after RECEIVER s)) s
 
--- "ROUND or RUN"; Round where neither stands first
+-- run where RUN stands first, else round
 unfoldable pub kind_in : List ℕ → Kind
 unfolding begins
 kind_in s = cond (begins RUN s) Run Round

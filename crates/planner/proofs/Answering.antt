@@ -1,4 +1,5 @@
--- What the planner's parts report is what `plan_call` yields: the best plan or none, a refusal changes nothing, and the working space is cleared where paper 01 says so.
+-- What the planner's parts report is what `plan_call` yields: the best plan or none, a refusal changes nothing, and
+-- the working space is cleared after a plan and after 8.
 use Prim.Native.Nat.{ℕ, ◌≤◌}
 use mathlib.Core.Path.{◌≡◌, refl, sym, ap, ◌∙◌}
 use mathlib.Core.Bool.{true, ◌||◌}
@@ -16,12 +17,12 @@ use Rattle.refusals.proofs.Refusals.{Passed, number_within, then_passed, asked_p
 use Rattle.std.specs.Prelude.{Result, Ok, Err, IsErrAnd}
 use Rattle.table.specs.Tables.{Table}
 use Rattle.table.specs.Checks.{lists_refusal, table_looked}
-use Rattle.table.specs.Planned.{space_bytes, space_refusal, checked, best_plan, Planned, answering, given, planned, space_after, called, plan_call, Demand3}
+use Rattle.table.specs.Planned.{space_bytes, space_refusal, checked, best_plan, Planned, answering, given, planned, space_after, called, plan_call, IsBestPlan}
 use Rattle.best_plan.specs.Rows.{Checked}
 use Rattle.best_plan.proofs.Clearing.{space_cleared}
 use Rattle.table.proofs.Checked.{checked_8, checked_valid}
 use Rattle.table.proofs.Calls.{space_kept, rest_next}
-use Rattle.table.proofs.Rivals.{planned_passed, planned_refused, demand_3}
+use Rattle.table.proofs.Rivals.{planned_passed, planned_refused, best_plan_given}
 
 -- a check that gives no error passes
 pub passed : {a r : Outcome} {u : Unit {0}} → r ≡ a → r ≡ Ok u → Passed a
@@ -41,14 +42,14 @@ module _ (t : Table) (before space : List ℕ) where
   abbrev pub Promised : Answer → List ℕ → List ℕ → Type 0
   Promised a after space' =
       (called a after space' ≡ plan_call t before space)
-      × (Passed (checked t before (length space)) → Demand3 t a after)
+      × (Passed (checked t before (length space)) → IsBestPlan t a after)
 
   promised : (a : Answer) (after space' : List ℕ) → answering a after ≡ planned t before (length space) → space' ≡ space_after a.refusal space → Promised a after space'
   unfolding plan_call
   promised a after space' e s =
       let kept : space' ≡ space_after (planned t before (length space)).answer.refusal space = s ∙ ap (λ (p : Planned). space_after p.answer.refusal space) e in (
         λ i. called (e i).answer (e i).labels (kept i),
-        λ p. rw (ap (λ (x : Planned). x.answer) e, ap (λ (x : Planned). x.labels) e) (demand_3 t before (length space) p),
+        λ p. rw (ap (λ (x : Planned). x.answer) e, ap (λ (x : Planned). x.labels) e) (best_plan_given t before (length space) p),
       )
 
   refused_so : {e : Refusal} → Err e ≡ checked t before (length space) → Promised (answered (Err e) 0) before space

@@ -1,4 +1,5 @@
--- A player that starts on a tape which the writer can make follows it: each step is at its tick, tells what the tape's windows say there, and after the end of a run nothing moves.
+-- A player that starts on a tape which the writer can make follows it: each step is at its tick, tells what the tape's
+-- windows say there, and after the end of a run nothing moves.
 use Prim.Native.Nat.{ℕ, zero, suc, ◌+◌, ◌%◌, ◌≤◌, ◌<◌}
 use mathlib.Core.Path.{◌≡◌, refl, sym, ap, ◌∙◌}
 use mathlib.Core.List.{List}

@@ -1,9 +1,10 @@
--- Laws of the player, and the theorem that it follows its tape.
+-- Laws of the player, the theorem that it follows its tape, and worked examples.
 pub mod Steps
 pub mod Finding
 pub mod Telling
 pub mod Following
-pub mod Request1
+pub mod Starting
+pub mod Promised
 pub mod Plan
-pub mod Request3
+pub mod AllDay
 pub mod Session

@@ -1,4 +1,5 @@
--- From a plan to the receivers: a player on the tape that the writer writes for a plan tells at each step which row of the plan its receiver hears, and until which tick. No reading of a tape stands in this statement.
+-- From a plan to the receivers: a player on the tape that the writer writes for a plan tells at each step which row
+-- of the plan its receiver hears, and until which tick. No reading of a tape stands in this statement.
 use Prim.Native.Nat.{ℕ, ◌<◌}
 use mathlib.Core.Path.{◌≡◌, refl, sym, ◌∙◌, subst}
 use mathlib.Core.Logic.{◌↔◌}
@@ -21,7 +22,8 @@ use Rattle.player.specs.Played.{player_at}
 use Rattle.player.specs.Follows.{step_at, tick_of, Playing, Agrees}
 use Rattle.player.proofs.Following.{follows}
 
--- what is told of a receiver is what the plan has for it: the row with this label whose window covers the tick, until the row's end
+-- what is told of a receiver is what the plan has for it: the row with this label whose window covers the tick, until
+-- the row's end
 pub record TellsPlan (t : Table) (labels : List ℕ) (receiver tick : ℕ) (told : Receiver) : Type 0 where
   pub listening : (row end : ℕ)
       → (told ≡ Listening row end)

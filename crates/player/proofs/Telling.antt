@@ -1,4 +1,5 @@
--- What a step tells of a receiver is what its LISTENs mean at the tick: of LISTENs that do not overlap at most one covers it, and that one is told.
+-- What a step tells of a receiver is what its LISTENs mean at the tick: of LISTENs that do not overlap at most one
+-- covers it, and that one is told.
 use Prim.Native.Nat.{ℕ, ◌<◌}
 use mathlib.Core.Path.{◌≡◌, sym, ◌∙◌}
 use mathlib.Core.Logic.{inl, inr}
@@ -25,7 +26,7 @@ module _ (kind : Kind) (R tick : ℕ) (ws : List Listen) (part : Part kind R ws)
   covers : (w : Listen) → Lies kind R tick w ≡ true → Covers kind R w.start w.end tick
   covers w e = ((lies_iff kind R w.start w.end tick).0 e).2
 
-  -- "At most one can": two LISTENs of a receiver that cover a tick are one
+  -- two LISTENs of a receiver that cover a tick are one
   pub at_most_one : (w v : Listen) → Memᴰ w ws → Memᴰ v ws → Covers kind R w.start w.end tick → Covers kind R v.start v.end tick → w ≡ v
   at_most_one w v m n x y = go (ℕ_discrete w.row v.row)
     where

@@ -1,4 +1,6 @@
--- Believed: What it means that a player follows its tape (paper 02, request 1): "From an accepted start, each step until finished must agree with the tape's windows at its tick, not only the first."
+-- Believed: What a start of a player promises: which tapes and first ticks it accepts, that an accepted player
+-- follows its tape at every step, and that the player which stands for a refused start is finished (docs/RULES.md,
+-- Player).
 use Rattle.refusals.specs.Refusals.{Accepted, Tape, FirstTick}
 use Rattle.std.specs.Prelude.{ℕ, zero, suc, ◌+◌, ◌%◌, ◌≤◌, ◌<◌, ◌≡◌, ◌↔◌, false, List}
 use Rattle.window.specs.declared.Kind.{Kind}
@@ -22,12 +24,13 @@ after_steps tape player (suc n) = (stepped tape (after_steps tape player n)).pla
 abbrev pub step_at : List ℕ → Player → ℕ → Stepped
 step_at tape player n = stepped tape (after_steps tape player n)
 
--- the tick of step n, "the given first tick at the first step": it "wraps in a round"
+-- the tick of step n: the first step is at the first tick, each further one at the next; after R − 1 a round is at 0
+-- again
 abbrev pub tick_of : Kind → ℕ → ℕ → ℕ → ℕ
 tick_of Round R first n = (first + n) % R
 tick_of Run R first n = first + n
 
--- "After tick R−1 a run is finished"; a round never is
+-- step n comes before the end: a run ends after tick R − 1, and a round never
 abbrev pub Playing : Kind → ℕ → ℕ → ℕ → Type 0
 Playing Round R first n = Unit {0}
 Playing Run R first n = first + n < R
@@ -42,16 +45,21 @@ pub record Agrees (s : Stated) (tick : ℕ) (state : State) : Type 0 where
 pub record Follows (tape : List ℕ) (first : ℕ) (player : Player) : Type 0 where
   pub agrees : (n : ℕ) → Playing (stated tape).kind (stated tape).ticks first n
       → Agrees (stated tape) (tick_of (stated tape).kind (stated tape).ticks first n) (step_at tape player n).state
-  -- "A finished player's next step says finished and changes nothing."
-  pub finishes : (n : ℕ) → (Playing (stated tape).kind (stated tape).ticks first n → ⊥) → step_at tape player n ≡ resting (after_steps tape player n)
+  -- after the end a step says finished and leaves the player as it is
+  pub finishes : (n : ℕ) → (Playing (stated tape).kind (stated tape).ticks first n → ⊥)
+      → step_at tape player n ≡ resting (after_steps tape player n)
 
--- What request 1 asks of a start that gives this refusal and player.
-pub record Request1 (tape : List ℕ) (first : ℕ) (out : Started) : Type 0 where
-  -- "The reader takes exactly the tapes the writer can write"; "Turned away: 12, a tape no writer makes;
+-- a player that is finished on every tape: a step says so, tells that both receivers are idle, and leaves it as it is
+abbrev pub IsFinished : Player → Type 0
+IsFinished player = (tape : List ℕ) → Bytes tape → stepped tape player ≡ resting player
+
+-- What a start promises that gives this refusal and this player.
+pub record StartsPlayer (tape : List ℕ) (first : ℕ) (out : Started) : Type 0 where
+  -- refusal 12 comes first: the writer makes no such tape
   pub tape_refused : (out.refusal ≡ Tape) ↔ (WriterMakes tape → ⊥)
-  -- then 13, a first tick not below R."
+  -- then refusal 13: the first tick is not below R
   pub tick_refused : (out.refusal ≡ FirstTick) ↔ (WriterMakes tape × (ticks_at tape ≤ first))
   pub accepted : (out.refusal ≡ Accepted) ↔ (WriterMakes tape × (first < ticks_at tape))
   pub follows : out.refusal ≡ Accepted → Follows tape first out.player
-  -- "Either gives a player already finished", whatever tape it is stepped on
-  pub finished : (out.refusal ≡ Accepted → ⊥) → (other : List ℕ) → Bytes other → stepped other out.player ≡ resting out.player
+  -- the player beside a refusal is finished, whatever tape it is stepped on
+  pub finished : (out.refusal ≡ Accepted → ⊥) → IsFinished out.player

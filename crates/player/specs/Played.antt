@@ -29,32 +29,32 @@ unfolding telling
 told_at s tick =
     state_of false (telling s.kind s.ticks tick Idle s.first) (telling s.kind s.ticks tick Idle s.second)
 
--- "A step tells this for its tick .. and then moves on."
+-- a step tells this for its tick, and the player moves on to the next
 unfoldable pub moving : Stated → ℕ → Stepped
 unfolding told_at
 moving s tick = stepped_to (told_at s tick) (player_at (next s.kind s.ticks tick))
 
--- "A finished player's next step says finished and changes nothing."
+-- a step of a finished player says finished, tells that both receivers are idle, and leaves the player as it is
 abbrev pub resting : Player → Stepped
 resting player = stepped_to (state_of true Idle Idle) player
 
--- A player is finished on a tape where its tick is not below R.
+-- a player is finished on a tape where its tick is not below R
 unfoldable pub stepped : List ℕ → Player → Stepped
 unfolding stated moving
 stepped tape player = cond (ltb player.tick (stated tape).ticks) (moving (stated tape) player.tick) (resting player)
 
 -- ---- a start
 
--- "Turned away: 12, a tape no writer makes; then 13, a first tick not below R."
+-- refusal 12, a tape that the writer never makes; then 13, a first tick not below R
 unfoldable pub start_refusal : List ℕ → ℕ → Outcome
 unfolding is_plan_tape ticks_at
 start_refusal tape first = asked (is_plan_tape tape) Tape then asked (ltb first (ticks_at tape)) FirstTick
 
--- "Either gives a player already finished": R has 16 bits, so this tick is below no R.
+-- the tick of a player that is finished on every tape: R has 16 bits, so it is below no R
 abbrev pub finished_tick : ℕ
 finished_tick = 65535
 
--- what a start gives: whether it is accepted, and a player
+-- a start as a whole: whether it is accepted, and a player; of a refused start the finished one
 pub record Started : Type 0 where
   pub refusal : Outcome
   pub player : Player
@@ -68,7 +68,8 @@ started tape first =
     cond (passes (start_refusal tape first)) (starting Accepted (player_at first))
     (starting (start_refusal tape first) (player_at finished_tick))
 
--- what a start gives, of a start that gives a player or a refusal: with the refusal the finished player
+-- A Result as such a whole. An `Err` has no player: the finished one is put beside the refusal here. It is what
+-- `Player::finished` gives, and what C is handed with a refusal (crate `hub_c`).
 abbrev pub started_of : Result Player Refusal → Started
 started_of (Ok player) = starting Accepted player
 started_of (Err r) = starting (Err r) (player_at finished_tick)

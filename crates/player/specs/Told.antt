@@ -1,4 +1,5 @@
--- Believed: What the player tells of one receiver at a tick (paper 02, request 1).
+-- Believed: What the player tells of one receiver at a tick: that it is idle, or listening to a row, and until which
+-- tick (docs/RULES.md, Player).
 use Rattle.std.specs.Prelude.{ℕ, ◌≡◌, ◌↔◌, cond}
 use mathlib.Core.List.{List, [], ◌∷◌, Memᴰ}
 use Rattle.window.specs.declared.Kind.{Kind}
@@ -7,14 +8,17 @@ use Rattle.plan_tape.specs.Stated.{Listen, listen_of}
 use Rattle.player.specs.declared.Receiver.{Receiver}
 use Rattle.player.specs.declared.Receiver.TheVariants.{Idle, Listening}
 
--- "For each receiver it tells whether it is idle or listening to a row, and until which tick: the window's end as taped", of a receiver's LISTENs on a tape of this kind and R
+-- what is told of a receiver with these LISTENs on a tape of this kind and R is right at the tick
 pub record Tells (kind : Kind) (R tick : ℕ) (listens : List Listen) (told : Receiver) : Type 0 where
   -- listening to a row until `end` exactly if a LISTEN has this row and this end and its window covers the tick,
-  pub listening : (row end : ℕ) → (told ≡ Listening row end) ↔ ((start : ℕ) × Memᴰ (listen_of row start end) listens × Covers kind R start end tick)
+  pub listening : (row end : ℕ)
+      → (told ≡ Listening row end)
+      ↔ ((start : ℕ) × Memᴰ (listen_of row start end) listens × Covers kind R start end tick)
   -- and idle exactly if no LISTEN's window does
   pub idle : (told ≡ Idle) ↔ ((w : Listen) → Memᴰ w listens → Covers kind R w.start w.end tick → ⊥)
 
--- What a step computes, on any LISTENs: the last of them that is a window in which the tick lies, and `told` if none is. On a tape that the writer can make at most one is.
+-- What a step computes, on any LISTENs: the last of them that is a window in which the tick lies, and `told` if none
+-- is. On a tape that the writer can make at most one is.
 unfoldable pub telling : Kind → ℕ → ℕ → Receiver → List Listen → Receiver
 unfolding lies_in
 telling kind R tick told [] = told

@@ -1,4 +1,5 @@
-// The player: it follows a plan tape tick by tick, and tells of each receiver whether it is idle or listening to a row, and until which tick.
+// The player: it follows a plan tape tick by tick, and tells of each receiver whether it is idle or listening to a row,
+// and until which tick (docs/RULES.md, Player).
 #![tactic(auto)]
 
 ghost use Rattle.std.specs.Prelude.{◌≡◌, false, cond};
@@ -8,19 +9,20 @@ ghost use Rattle.plan_reader.specs.Items.{left};
 ghost use Rattle.player.specs.declared.Receiver.TheVariants.{Idle, Listening};
 ghost use Rattle.player.specs.Told.{telling};
 ghost use Rattle.player.specs.Played.{player_at, state_of, resting, stepped, finished_tick, started_of, started};
-ghost use Rattle.player.specs.Follows.{Request1};
+ghost use Rattle.player.specs.Follows.{IsFinished, StartsPlayer};
 
 use plan_reader::{Head, Item, Listen, PlanReader};
 use refusals::Refusal;
 
-// "tells whether it is idle or listening to a row, and until which tick": the enum for each receiver that paper 01 names.
+// What a receiver does at a tick: it is idle, or it listens to a row until the end of the row's window.
 #[derive(Clone, Copy, Debug, PartialEq, Eq)]
 pub enum Receiver {
     Idle,
     Listening { row: u8, until: u16 },
 }
 
-// What a step tells: that the player is finished, or what each receiver does at the step's tick. Paper 01 names these three, and C's struct has them as fields.
+// What a step tells: that the player is finished, or what each receiver does at the step's tick. A finished player's
+// receivers are idle.
 #[derive(Clone, Copy, Debug, PartialEq, Eq)]
 pub struct State {
     pub finished: bool,
@@ -61,7 +63,7 @@ impl Moment {
         before
     }
 
-    // What the LISTENs that stand first tell. A `while let` on the lent reader: it goes on after them, which the caller needs.
+    // What the LISTENs that stand first tell. The reader goes on after them.
     #[tactic(auto, unfolding(crate::specs::Told::telling))]
     fn tell_listens(self, reader: &mut PlanReader) -> Receiver
         ensures told { result ≡ telling self.head.kind self.head.ticks self.tick Idle (listens_in (left reader.old)) }
@@ -74,7 +76,8 @@ impl Moment {
         receiver
     }
 
-    // What the receiver that stands first does, and the reader goes on after its LISTENs; nothing where none stands first, and the reader stays.
+    // What the receiver that stands first does, and the reader goes on after its LISTENs; nothing where none stands
+    // first, and the reader stays.
     fn tell_part(self, reader: &mut PlanReader) -> Receiver
         ensures told { result ≡ telling self.head.kind self.head.ticks self.tick Idle (part_in (left reader.old)) }
         ensures rest { left reader.new ≡ after_part (left reader.old) }
@@ -103,18 +106,23 @@ impl Moment {
 }
 
 impl Player {
-    // A player that is finished on every tape: its tick is below no R. "Either gives a player already finished": so a refused start is to be read.
+    // A player that is finished on every tape: its tick is below no R. It stands for a refused start where a caller
+    // needs a player.
+    #[tactic(auto, using(crate::proofs::Starting::finished_rests))]
     pub fn finished() -> Player
-        ensures { result ≡ player_at finished_tick }
+        ensures tick { result ≡ player_at finished_tick }
+        ensures rests { IsFinished result }
     {
         Player { tick: 65535 }
     }
 
-    // A START of a player on a tape at a first tick. What it gives is what the definition `started` yields, on every input. So, spelled out: it is as request 1 asks, and an
-    // accepted player follows its tape at every step.
+    // Starts a player on a tape at a first tick. Whether it is accepted, and the player, is what the definition
+    // `started` yields, on every input; so, spelled out, 12 and 13 are refused in their order, and an accepted player
+    // follows its tape at every step. A refusal has no player: the contract reads the finished one beside it
+    // (`started_of`).
     pub fn start(tape: &[u8], first: u16) -> Result<Player, Refusal>
         ensures started { started_of result ≡ started tape.now first }
-        ensures request { Request1 tape.now first (started_of result) }
+        ensures starts { StartsPlayer tape.now first (started_of result) }
     {
         if !plan_reader::judged::is_plan_tape(tape) {
             return Err(Refusal::Tape);
@@ -125,8 +133,9 @@ impl Player {
         Ok(Player { tick: first })
     }
 
-    // A STEP of a player on a tape: it tells for the player's tick and then moves on. What it gives is what the definition `stepped` yields, on every tape and every player, also
-    // ones that no start gave. It walks at most once over the tape and does not judge its form again.
+    // A step of a player on a tape: it tells for the player's tick and then moves on. What it gives is what the
+    // definition `stepped` yields, on every tape and every player, also ones that no start gave. It walks at most
+    // once over the tape and does not judge its form again.
     pub fn step(self, tape: &[u8]) -> Stepped
         ensures { result ≡ stepped tape.now self }
     {
@@ -149,7 +158,7 @@ impl Player {
         }
     }
 
-    // A step of a finished player.
+    // A step of a player that is finished on its tape.
     fn rest(self) -> Stepped
         ensures { result ≡ resting self }
     {

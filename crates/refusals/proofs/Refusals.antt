@@ -1,4 +1,5 @@
--- Laws of checks that are made one after the other: which refusal comes out, what is known once all have passed, and what holds of every refusal that can come out.
+-- Laws of checks that are made one after the other: which refusal comes out, what is known once all have passed, and
+-- what holds of every refusal that can come out.
 use Prim.Native.Nat.{◌≤◌, ◌<◌}
 use mathlib.Core.Path.{◌≡◌, refl}
 use mathlib.Core.Bool.{Bool, true, false, cond, not}
@@ -115,7 +116,7 @@ pub asked_either : (P : Outcome → Type 0) (x : Bool) {r : Outcome} → P Accep
 asked_either P true f g = f
 asked_either P false f g = g
 
--- ---- the papers' numbers, written out
+-- ---- the numbers, written out
 
 pub numbers :
     (number_of Accepted ≡ 0)

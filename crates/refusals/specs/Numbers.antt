@@ -1,4 +1,4 @@
--- Believed: The refusals of paper 01, "Who can cause a no", and of paper 02, by their numbers.
+-- Believed: The number of each refusal (docs/RULES.md, Refusals).
 use Rattle.std.specs.Prelude.{ℕ}
 use Rattle.refusals.specs.declared.Refusal.{Refusal}
 use Rattle.refusals.specs.declared.Refusal.TheVariants.{Lists, Rows, Space, Ticks, Hours, Window, Mark, NoPlan, NotPlan, Buffer, Form, Tape, FirstTick, Gap, NoRow, Candidates}

@@ -1,4 +1,5 @@
--- Believed: What a call reports: accepted, or a refusal of paper 01, "Who can cause a no", or of paper 02; and checks that are made one after the other.
+-- Believed: What a call reports, accepted or refused; and checks that are made one after the other, of which the first
+-- that refuses decides (docs/RULES.md, Refusals).
 use Rattle.std.specs.Prelude.{ℕ, Bool, cond, eqb, Result, Ok, Err}
 use Rattle.refusals.specs.declared.Refusal.{Refusal}
 use Rattle.refusals.specs.declared.Refusal.TheVariants as refusal
@@ -64,7 +65,7 @@ abbrev pub number_of : Outcome → ℕ
 number_of (Ok _) = 0
 number_of (Err r) = number r
 
--- what a call reports: refused "with count 0"
+-- what a call reports; of a refusal the count is 0
 pub record Answer : Type 0 where
   pub refusal : Outcome
   pub count : ℕ
@@ -88,6 +89,6 @@ abbrev pub passes : Outcome → Bool
 passes r = eqb (number_of r) 0
 
 infixr 20 ◌then◌
--- "The first that applies is reported"
+-- the second check counts only where the first refuses nothing
 abbrev pub ◌then◌ : Outcome → Outcome → Outcome
 a then b = cond (passes a) b a

@@ -1,11 +1,11 @@
-// The refusals of papers 01 and 02, by their numbers.
+// Why a call can be refused: the refusals by their numbers.
 #![tactic(auto)]
 
 ghost use Rattle.std.specs.Prelude.{◌≡◌};
 ghost use Rattle.refusals.specs.Numbers.{number};
 ghost use Rattle.refusals.specs.Refusals.{number_of};
 
-// Why a call is refused. Its number is that of the papers.
+// Why a call is refused. The number is what callers see (docs/RULES.md, Refusals).
 #[derive(Clone, Copy, Debug, PartialEq, Eq)]
 pub enum Refusal {
     Lists = 1,

@@ -2,4 +2,4 @@
 pub mod Putting
 pub mod Replying
 pub mod Session
-pub mod Request9
+pub mod WorkingSpace

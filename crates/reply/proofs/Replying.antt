@@ -17,11 +17,11 @@ use Rattle.table.specs.Planned.{checked, best_plan, Planned, given, planned, spa
 use Rattle.refusals.proofs.Refusals.{Passed, number_below}
 use Rattle.table.proofs.Checked.{checked_valid}
 use Rattle.table.proofs.Rivals.{best_plan_iff, planned_passed, planned_refused}
-use Rattle.basics.specs.Limits.{has_places}
+use Rattle.basics.specs.Limits.{max_rows, has_places}
 use Rattle.fleet_tape.specs.Form.{Fleet, fleet_of}
 use Rattle.fleet_tape.specs.Reading.{Reading, reading, refused, taken, judged, fleet_read}
 use Rattle.reply.specs.Lines.{heard_word, refused_word, word_line, row_line, row_lines, printed}
-use Rattle.reply.specs.Replied.{places, table_read, refused_with, read_answer, tape_answer, Replied, replying, replied_with, replied, InFront}
+use Rattle.reply.specs.Replied.{tape_most, out_bytes, places, table_read, refused_with, read_answer, tape_answer, Replied, replying, replied_with, replied, InFront}
 use Rattle.reply.specs.Room.{Answerable, FreshLists}
 use Rattle.basics.proofs.Puts.{put_front}
 use Rattle.reply.proofs.Putting.{word_length, row_length}
@@ -37,14 +37,14 @@ unfolding printed
 printed_refused p n = rw (ne_eqb (number_of p.answer.refusal) 0 n) refl
 
 -- six bytes a line at most
-rows_length : (row : ℕ) (labels : List ℕ) → row + length labels ≤ 64 → ((i : ℕ) → i < length labels → at labels i < 100) → length (row_lines row labels) ≤ 6 * length labels
+rows_length : (row : ℕ) (labels : List ℕ) → row + length labels ≤ max_rows → ((i : ℕ) → i < length labels → at labels i < 100) → length (row_lines row labels) ≤ 6 * length labels
 unfolding row_lines
 rows_length row [] h small = omega arith
 rows_length row (x ∷ labels) h small =
     let r = rows_length (suc row) labels (omega arith) (λ i k. small (suc i) (omega arith)) in
     omega (arith, length-append (row_line row x) (row_lines (suc row) labels), row_length row x (omega arith) (small 0 (omega arith)))
 
--- no reply is longer than 400 bytes
+-- no reply is longer than the output
 printed_length : (p : Planned) (out : List ℕ) → Answerable p out → length (printed p) ≤ length out
 printed_length p out a = go (eqb (number_of p.answer.refusal) 0) refl
   where
@@ -60,14 +60,14 @@ printed_length p out a = go (eqb (number_of p.answer.refusal) 0) refl
 -- ---- the planner's answer
 
 -- a plan's labels and its count have one digit or two
-module _ (t : Table) (before : List ℕ) (space : ℕ) (out : List ℕ) (room : 400 ≤ length out) where
+module _ (t : Table) (before : List ℕ) (space : ℕ) (out : List ℕ) (room : out_bytes ≤ length out) where
   given_answerable : (o : Option (List ℕ)) → best_plan t ≡ o → Passed (checked t before space) → Answerable (given o before) out
   unfolding given
   given_answerable none e p = record { count = λ z. absurd (omega arith); labels = λ z. absurd (omega arith); fits = room }
   given_answerable (some plan) e p =
       let v = (checked_valid t before space p).0 in
       let m = ((best_plan_iff t v plan).0 e).member in
-      let few : length plan ≤ 64 = omega (arith, m.each, v.few) in
+      let few : length plan ≤ max_rows = omega (arith, m.each, v.few) in
       record {
         count = λ z. omega (arith, heard_le plan);
         labels = λ z. record { few = few; small = λ i h. omega (arith, (m.allowed i (omega (arith, m.each))).known) };
@@ -104,7 +104,7 @@ space_kept : (refusal : Outcome) (space : List ℕ) → (number_of refusal ≡ 0
 unfolding space_after
 space_kept refusal space n m = rw (ne_eqb (number_of refusal) 0 n, ne_eqb (number_of refusal) 8 m) refl
 
-pub refusal_replied : (refusal : Outcome) (space : List ℕ) {out after : List ℕ} {r : ℕ} → (number_of refusal ≡ 0 → ⊥) → (number_of refusal ≡ 8 → ⊥) → 400 ≤ length out
+pub refusal_replied : (refusal : Outcome) (space : List ℕ) {out after : List ℕ} {r : ℕ} → (number_of refusal ≡ 0 → ⊥) → (number_of refusal ≡ 8 → ⊥) → out_bytes ≤ length out
     → Put out 0 (word_line refused_word (number_of refusal)) after r → replying r after space ≡ replied_with (refused_with refusal) out space
 refusal_replied refusal space n m h e =
     answer_replied (refused_with refusal) space (record { count = λ z. absurd (n z); labels = λ z. absurd (n z); fits = h })
@@ -115,14 +115,14 @@ refusal_replied refusal space n m h e =
 -- the reader never refuses by 8, and what it accepts has at most 64 rows
 record Sound (r : Reading) : Type 0 where
   not_8 : number_of r.report.refusal ≡ 8 → ⊥
-  few : r.report.rows ≤ 64
+  few : r.report.rows ≤ max_rows
 
-pub places_length : length places ≡ 64
+pub places_length : length places ≡ max_rows
 unfolding places
 places_length = refl
 
 -- the lists as they are first lent
-pub fresh : {out : List ℕ} → 400 ≤ length out → FreshLists places places places places out
+pub fresh : {out : List ℕ} → out_bytes ≤ length out → FreshLists places places places places out
 fresh h = record { starts_are = refl; ends_are = refl; marks_are = refl; labels_are = refl; fits = h }
 
 -- why the lists have places for the rows
@@ -132,10 +132,10 @@ module _ (tape : List ℕ) where
   judged_sound : (o : Option Fleet) → Sound (judged o places places places)
   unfolding judged taken
   judged_sound none = record { not_8 = λ e. omega arith; few = omega arith }
-  judged_sound (some f) = go (leb (length f.rows) 64) refl
+  judged_sound (some f) = go (leb (length f.rows) max_rows) refl
     where
-      go : (b : Bool) → leb (length f.rows) 64 ≡ b → Sound (cond b (taken f places places places) (reading (refused Rows) places places places))
-      go true e = record { not_8 = λ z. omega arith; few = leb-true (length f.rows) 64 e }
+      go : (b : Bool) → leb (length f.rows) max_rows ≡ b → Sound (cond b (taken f places places places) (reading (refused Rows) places places places))
+      go true e = record { not_8 = λ z. omega arith; few = leb-true (length f.rows) max_rows e }
       go false e = record { not_8 = λ z. omega arith; few = omega arith }
 
   read_sound : Sound (fleet_read tape places places places)
@@ -155,7 +155,7 @@ module _ (tape : List ℕ) where
     sound = rw read_places read_sound
 
     -- the rows fit lists of 64 places
-    pub rows_few : r.report.rows ≤ 64
+    pub rows_few : r.report.rows ≤ max_rows
     rows_few = sound.few
 
     -- the reader refuses
@@ -177,17 +177,17 @@ module _ (tape : List ℕ) where
 -- ---- the whole call
 
 module _ (tape out space : List ℕ) where
-  pub out_short : length out < 400 → replying 0 out space ≡ replied tape out space
+  pub out_short : length out < out_bytes → replying 0 out space ≡ replied tape out space
   unfolding replied
-  out_short h = sym (rw (lt-leb 400 (length out) h) refl)
+  out_short h = sym (rw (lt-leb out_bytes (length out) h) refl)
 
-  pub tape_long : 400 ≤ length out → 400 < length tape → replied_with (refused_with Form) out space ≡ replied tape out space
+  pub tape_long : out_bytes ≤ length out → tape_most < length tape → replied_with (refused_with Form) out space ≡ replied tape out space
   unfolding replied tape_answer
-  tape_long h k = sym (rw (le-leb 400 (length out) h, lt-leb (length tape) 400 k) refl)
+  tape_long h k = sym (rw (le-leb out_bytes (length out) h, lt-leb (length tape) tape_most k) refl)
 
-  pub tape_read : 400 ≤ length out → length tape ≤ 400 → replied_with (read_answer (fleet_read tape places places places) (length space)) out space ≡ replied tape out space
+  pub tape_read : out_bytes ≤ length out → length tape ≤ tape_most → replied_with (read_answer (fleet_read tape places places places) (length space)) out space ≡ replied tape out space
   unfolding replied tape_answer
-  tape_read h k = sym (rw (le-leb 400 (length out) h, le-leb (length tape) 400 k) refl)
+  tape_read h k = sym (rw (le-leb out_bytes (length out) h, le-leb (length tape) tape_most k) refl)
 
   -- the length returned lies within the output
   pub replied_within : {r : ℕ} {after space' : List ℕ} → replying r after space' ≡ replied tape out space → InFront r after
@@ -202,4 +202,4 @@ module _ (tape out space : List ℕ) where
       go false = omega arith
 
       h : r ≤ length after
-      h = subst (λ (x : Replied). x.written ≤ length x.out) (sym e) (go (leb 400 (length out)))
+      h = subst (λ (x : Replied). x.written ≤ length x.out) (sym e) (go (leb out_bytes (length out)))

@@ -1,4 +1,4 @@
--- What the contracts of the crate `reply` cite, and what a reader must believe: the lines that `hubplan` prints, and the right answer of a call.
+-- What the contracts of the crate `reply` cite: the lines that `hubplan` prints, and the right answer of a call.
 pub mod Lines
 pub mod Replied
 pub mod Room

@@ -1,4 +1,5 @@
--- Believed: The lines that `hubplan` prints (paper 01, "The program and one full session"), as bytes: one space between words, a newline after every line.
+-- Believed: The lines that `hubplan` prints (docs/RULES.md, The program), as bytes: one space between words, a newline
+-- after every line.
 use Rattle.std.specs.Prelude.{ℕ, zero, suc, ◌+◌, ◌/◌, ◌%◌, cond, List, [], ◌∷◌, ◌++◌, ltb, eqb}
 use Rattle.refusals.specs.Refusals.{number_of}
 use Rattle.table.specs.Planned.{Planned}
@@ -27,12 +28,12 @@ heard_word = 104 ∷ 101 ∷ 97 ∷ 114 ∷ 100 ∷ []
 abbrev pub refused_word : List ℕ
 refused_word = 114 ∷ 101 ∷ 102 ∷ 117 ∷ 115 ∷ 101 ∷ 100 ∷ []
 
--- a word and a number: "heard" and the count, "refused" and the number
+-- a word and a number
 unfoldable pub word_line : List ℕ → ℕ → List ℕ
 unfolding decimal
 word_line word n = word ++ blank ++ decimal n ++ newline
 
--- "a line per row: row number, label"
+-- the line of a row: row number and label
 unfoldable pub row_line : ℕ → ℕ → List ℕ
 unfolding decimal
 row_line row label = decimal row ++ blank ++ decimal label ++ newline
@@ -43,7 +44,7 @@ unfolding row_line
 row_lines row [] = []
 row_lines row (label ∷ labels) = row_line row label ++ row_lines (suc row) labels
 
--- "It prints "heard" and the count, then a line per row: row number, label. On refusal it prints "refused" and the number."
+-- of an accepted call "heard" and the count, and then a line for each row; of a refused one "refused" and the number
 unfoldable pub printed : Planned → List ℕ
 unfolding word_line row_lines
 printed p =

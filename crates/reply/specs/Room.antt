@@ -37,7 +37,7 @@ pub record WordRoom (word : List ℕ) (n : ℕ) (out : List ℕ) : Type 0 where
   pub small : n < 100
   pub fits : out_bytes ≤ length out
 
--- an answer whose lines have room in 400 bytes
+-- an answer whose lines have room in the output
 pub record Answerable (p : Planned) (out : List ℕ) : Type 0 where
   pub count : number_of p.answer.refusal ≡ 0 → p.answer.count < 100
   pub labels : number_of p.answer.refusal ≡ 0 → Labels p.labels

@@ -1,4 +1,4 @@
-// From the bytes of a fleet tape to the bytes that `hubplan` prints.
+// From the bytes of a fleet tape to the bytes that `hubplan` prints (docs/RULES.md, The program).
 #![tactic(auto)]
 
 ghost use Rattle.std.specs.Prelude.{◌≡◌, ◌+◌, ◌<◌, length};
@@ -29,8 +29,9 @@ fn digit(n: usize) -> u8
     b'0' + (n as u8)
 }
 
-// Puts bytes at a place; the result is the place after them. Bytes that are computed are put one by one: an array of them would be one more that `reply` holds.
-// C lends the output, and there is no heap: each part takes it and a place. An `fmt::Write` for `write!`, whose contract says the bytes, would be no plainer.
+// Puts bytes at a place; the result is the place after them. The output is lent and there is no heap, so each part
+// takes the output and a place. Bytes that are computed are put one by one: an array of them would be one more that
+// `reply` holds.
 fn put(out: &mut [u8], place: usize, bytes: &[u8]) -> usize
     requires { Room out.old place (length bytes.now) }
     ensures { Put out.old place bytes.now out.new result }
@@ -114,14 +115,16 @@ fn put_answer(out: &mut [u8], answer: Result<usize, Refusal>, labels: &[u8]) -> 
 // The reply to a table, whose labels are lent.
 fn reply_table(table: Table, labels: &mut [u8], out: &mut [u8], space: &mut [u8]) -> usize
     requires { Room out.old 0 out_bytes }
-    ensures { replying result out.new space.new ≡ replied_with (planned (lent table.entry) labels.old (length space.old)) out.old space.old }
+    ensures { replying result out.new space.new
+        ≡ replied_with (planned (lent table.entry) labels.old (length space.old)) out.old space.old }
 {
     let answer = planner::plan(table, labels, space);
     put_answer(out, answer, labels)
 }
 
-// THE REPLY. Writes what `hubplan` prints for a tape to the front of the output and returns its length. Result, output and working space are what the
-// definition `replied` yields, on every input. That the length lies within the output follows; it is said so that a caller can lend `&out[..n]`.
+// THE REPLY. Writes what `hubplan` prints for a tape to the front of the output and returns its length. On every input,
+// result, output and working space are what the definition `replied` yields. That the length lies within the output
+// follows; it is a clause of its own so that a caller can lend `&out[..n]`.
 #[tactic(auto, using(crate::proofs::Replying::room_for_rows))]
 pub fn reply(tape: &[u8], out: &mut [u8], space: &mut [u8]) -> usize
     ensures replied { replying result out.new space.new ≡ replied tape.now out.old space.old }
@@ -133,7 +136,8 @@ pub fn reply(tape: &[u8], out: &mut [u8], space: &mut [u8]) -> usize
     if TAPE_BYTES < tape.len() {
         return put_refused(out, Refusal::Form);
     }
-    // Three arrays, since nothing is allocated: the reader fills the first places of each, as many as the report has rows.
+    // Three arrays, since nothing is allocated: the reader fills the first places of each, as many as the report has
+    // rows.
     let mut starts = [0u16; MAX_ROWS];
     let mut ends = [0u16; MAX_ROWS];
     let mut marks = [0u8; MAX_ROWS];
@@ -148,7 +152,7 @@ pub fn reply(tape: &[u8], out: &mut [u8], space: &mut [u8]) -> usize
         setting: Setting {
             kind: report.kind,
             ticks: report.ticks,
-            // "`hubplan` uses 0".
+            // A fleet tape states no gap: `hubplan` plans with 0.
             gap: 0,
             hours,
         },

@@ -1,4 +1,5 @@
--- Laws of rows that move up or down one: entries copied within a list; and rows that moved up and down again are where they were. Each is about one list.
+-- Laws of rows that move up or down one: entries copied within a list; and rows that moved up and down again are
+-- where they were. Each is about one list.
 use Prim.Native.Nat.{ℕ, suc, ◌+◌, ◌-◌, ◌≤◌, ◌<◌}
 use mathlib.Core.Path.{◌≡◌, sym, ap, ◌∙◌}
 use mathlib.Core.List.{List, ◌∷◌, ◌++◌}

@@ -1,5 +1,5 @@
-// Rows in lent lists of 64 places: a row stored at a place, and the rows after a place moved up or down one. The three lists are lent one by one: as a struct within
-// the struct of `held_table` their callers' checks learn nothing of what is written.
+// Rows in lent lists of 64 places: a row stored at a place, and the rows after a place moved up or down one. The
+// three lists are lent one by one, so that a contract says of each what it then holds.
 #![tactic(auto)]
 
 ghost use Rattle.std.specs.Prelude.{◌≡◌, ◌-◌, ◌<◌, ◌≤◌, length, set};

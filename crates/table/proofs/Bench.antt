@@ -1,4 +1,5 @@
--- The bench table: P1 to P12 of paper 01, and examples of marks 2 to 5, of beacons that send all day and of gaps (requests 2, 3 and 4 of paper 02). Calls, and the whole answer to each.
+-- Worked examples: calls of the planner, and the whole answer to each. First twelve of rounds and runs, P1 to P12,
+-- then others of marks, of beacons that send all day and of gaps.
 use Prim.Native.Nat.{ℕ, ◌-◌}
 use mathlib.Core.Path.{◌≡◌, refl}
 use mathlib.Core.List.{List, [], ◌∷◌, map}
@@ -61,7 +62,7 @@ p9_hours = hours_from 0 50 40 100
 p9 : ℕ → List Row
 p9 m = row 45 60 0 ∷ row 50 60 m ∷ row 0 50 0 ∷ []
 
--- the second row sends all day; before request 3 it was refused 6
+-- the first row has no mark that there is, the second sends all day
 p12 : List Row
 p12 = row 1 2 9 ∷ row 3 3 0 ∷ []
 
@@ -104,7 +105,8 @@ on_1 start end = row 7 7 3 ∷ row start end 2 ∷ []
 touching : ℕ → ℕ → List Row
 touching a b = row 2 8 a ∷ row 8 14 b ∷ []
 
--- 3 ticks lie between the end of the first and the start of the second, and so many between the end of the second and the start of the first
+-- 3 ticks lie between the end of the first and the start of the second, and so many between the end of the second and
+-- the start of the first
 sides : ℕ → List Row
 sides n = row 0 5 0 ∷ row 8 (20 - n) 0 ∷ []
 
@@ -116,7 +118,7 @@ far m = row 0 1 m ∷ row 7 8 m ∷ row 14 15 m ∷ []
 both_ends : List Row
 both_ends = row 0 10 0 ∷ row 90 100 0 ∷ []
 
--- P1 to P12, and then request 2: "2 and 3 may and must on receiver 1 only, 4 and 5 may and must on receiver 2 only"
+-- P1 to P12, and then marks 2 to 5: 2 may and 3 must be heard by receiver 1 alone, 4 may and 5 must by receiver 2 alone
 pub cases : List Case
 cases =
     round 100 [] (plan 0 [])
@@ -131,7 +133,8 @@ cases =
     ∷ run 100 p9_hours (p9 1) (plan 2 (0 ∷ 2 ∷ 1 ∷ []))
     ∷ round 2 (row 0 1 0 ∷ row 1 0 0 ∷ []) (plan 2 (1 ∷ 1 ∷ []))
     ∷ round 10 p12 (refused Mark p12)
-    -- mark 2 on row 1 changes the labels and not the count; so do mark 4 on row 0, and a must on receiver 2 that moves other rows
+    -- mark 2 on row 1 changes the labels and not the count; so do mark 4 on row 0, and a must on receiver 2 that
+    -- moves other rows
     ∷ round 10 (middle 0 0 0) (plan 3 (1 ∷ 2 ∷ 1 ∷ []))
     ∷ round 10 (middle 0 2 0) (plan 3 (2 ∷ 1 ∷ 2 ∷ []))
     ∷ round 10 (middle 4 0 0) (plan 3 (2 ∷ 1 ∷ 2 ∷ []))
@@ -152,9 +155,9 @@ cases =
     ∷ run 100 closed_1 (alone 3) (refused NoPlan (alone 3))
     ∷ run 100 closed_1 (alone 4) (plan 1 (2 ∷ []))
     ∷ run 100 closed_1 (alone 5) (plan 1 (2 ∷ []))
-    -- "Refusal 7 now begins at mark 6"
+    -- mark 6 is refused
     ∷ round 10 (equal 2 4 6) (refused Mark (equal 2 4 6))
-    -- request 3: "Three of them alone in a round, with mark 0, give labels 1 2 0", wherever they start
+    -- beacons that send all day: three of them alone have the labels 1, 2 and 0, wherever they start
     ∷ round 100 (row 0 0 0 ∷ row 0 0 0 ∷ row 0 0 0 ∷ []) (plan 2 (1 ∷ 2 ∷ 0 ∷ []))
     ∷ round 100 (row 70 70 0 ∷ row 0 0 0 ∷ row 99 99 0 ∷ []) (plan 2 (1 ∷ 2 ∷ 0 ∷ []))
     -- one of them has a receiver to itself; it is left out where it would cost two rows, unless it must be heard
@@ -167,31 +170,33 @@ cases =
     ∷ round 10 (two 1 1 0) (plan 2 (1 ∷ 2 ∷ 0 ∷ []))
     ∷ round 10 (two 1 1 1) (refused NoPlan (two 1 1 1))
     ∷ round 10 (two 3 3 0) (refused NoPlan (two 3 3 0))
-    -- "covers every tick": its own start, the tick before its end, and tick 0
+    -- such a beacon covers every tick: its own start, the tick before its end, and tick 0
     ∷ round 10 (on_1 7 8) (plan 1 (1 ∷ 0 ∷ []))
     ∷ round 10 (on_1 6 7) (plan 1 (1 ∷ 0 ∷ []))
     ∷ round 10 (on_1 0 1) (plan 1 (1 ∷ 0 ∷ []))
     -- the shortest round
     ∷ round 2 (row 1 1 0 ∷ row 0 1 0 ∷ row 1 0 0 ∷ []) (plan 3 (1 ∷ 2 ∷ 2 ∷ []))
-    -- "both must still be below R, and a run refuses it as before"
+    -- its start must be below R, and a run refuses it
     ∷ round 10 (row 10 10 0 ∷ []) (refused Window (row 10 10 0 ∷ []))
     ∷ run 100 p9_hours (row 45 45 0 ∷ []) (refused Window (row 45 45 0 ∷ []))
-    -- request 4: windows that touch have 0 ticks between them; g of 1 forbids it on one receiver, and between the receivers nothing is owed
+    -- gaps: windows that touch have 0 ticks between them; a gap of 1 forbids it on one receiver, and between the
+    -- receivers nothing is owed
     ∷ round_20 0 (touching 0 0) (plan 2 (1 ∷ 1 ∷ []))
     ∷ round_20 1 (touching 0 0) (plan 2 (1 ∷ 2 ∷ []))
     ∷ run_100 0 (touching 0 0) (plan 2 (1 ∷ 1 ∷ []))
     ∷ run_100 1 (touching 0 0) (plan 2 (1 ∷ 2 ∷ []))
-    -- "Labels that break the gap are no plan, for 8": both must be on receiver 1
+    -- labels that break the gap are no plan: both must be on receiver 1, and the call is refused 8
     ∷ round_20 0 (touching 3 3) (plan 2 (1 ∷ 1 ∷ []))
     ∷ round_20 1 (touching 3 3) (refused NoPlan (touching 3 3))
-    -- "In a round the gap is counted round the circle, and the gaps on both sides must do": exactly g on both, g − 1 on one, either way round
+    -- in a round the gap is counted round the circle, and is owed on both sides: exactly g on both, g − 1 on one,
+    -- either way round
     ∷ round_20 3 (sides 3) (plan 2 (1 ∷ 1 ∷ []))
     ∷ round_20 3 (sides 2) (plan 2 (1 ∷ 2 ∷ []))
     ∷ round_20 4 (sides 4) (plan 2 (1 ∷ 2 ∷ []))
     ∷ round_20 3 (row 8 18 0 ∷ row 0 5 0 ∷ []) (plan 2 (1 ∷ 2 ∷ []))
     ∷ round_20 3 (row 18 5 0 ∷ row 8 15 0 ∷ []) (plan 2 (1 ∷ 1 ∷ []))
     ∷ round_20 3 (row 18 5 0 ∷ row 8 16 0 ∷ []) (plan 2 (1 ∷ 2 ∷ []))
-    -- a gap that all three keep, that two of them keep and that none keeps; g of R and more
+    -- a gap that all three keep, that two of them keep and that none keeps; a gap of R and more
     ∷ round_20 5 (far 0) (plan 3 (1 ∷ 1 ∷ 1 ∷ []))
     ∷ round_20 6 (far 0) (plan 3 (1 ∷ 1 ∷ 2 ∷ []))
     ∷ round_20 7 (far 0) (plan 2 (1 ∷ 2 ∷ 0 ∷ []))
@@ -203,12 +208,13 @@ cases =
     ∷ run_100 81 both_ends (plan 2 (1 ∷ 2 ∷ []))
     ∷ run_100 600 (row 0 100 1 ∷ []) (plan 1 (1 ∷ []))
     ∷ on Run 100 20 p9_hours (row 0 50 0 ∷ row 40 100 0 ∷ []) (plan 2 (1 ∷ 2 ∷ []))
-    -- "A window is never too close to itself": a window alone with fewer than g ticks from its end to its start; equal windows in two rows are two windows
+    -- a window is never too close to itself: one alone with fewer than g ticks from its end to its start; equal
+    -- windows of two rows are two windows
     ∷ round_20 5 (row 3 19 1 ∷ []) (plan 1 (1 ∷ []))
     ∷ round_20 600 (row 3 2 1 ∷ []) (plan 1 (1 ∷ []))
     ∷ round_20 600 (row 7 7 1 ∷ []) (plan 1 (1 ∷ []))
     ∷ round_20 1 (row 4 5 0 ∷ row 4 5 0 ∷ row 4 5 0 ∷ []) (plan 2 (1 ∷ 2 ∷ 0 ∷ []))
-    -- "14, g above 600, looked at after 5": in a round after 4, and before the rows
+    -- a gap of 601 is refused 14, after 4 and 5 and before the rows
     ∷ round_20 601 (far 0) (refused Gap (far 0))
     ∷ run_100 601 both_ends (refused Gap both_ends)
     ∷ on Run 100 601 (hours_from 9 8 0 100) both_ends (refused Hours both_ends)

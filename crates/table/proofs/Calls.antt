@@ -92,11 +92,18 @@ module _ (t : Table) (before before' : List ℕ) (space space' : ℕ) (l : lengt
       ∙ ap (λ r. cond (passes r) (given (best_plan t) []).answer (answered r 0)) checked_anyhow
       ∙ sym (planned_answer t before' space')
 
--- of the same label list, and the labels too
-pub planned_anyhow : (t : Table) (before : List ℕ) (space space' : ℕ) → space_bytes ≤ space → space_bytes ≤ space' → planned t before space ≡ planned t before space'
+-- of the same label list, and the labels too: what a call gives is the same from any working space that is long enough,
+pub planned_anyhow : (t : Table) (before : List ℕ) (space space' : ℕ) → space_bytes ≤ space → space_bytes ≤ space'
+    → planned t before space ≡ planned t before space'
 unfolding planned
 planned_anyhow t before space space' a b =
     ap (λ r. cond (passes r) (given (best_plan t) before) (answering (answered r 0) before)) (checked_anyhow t before before space space' refl a b)
+
+-- and from any that is too short
+pub planned_short : (t : Table) (before : List ℕ) (space space' : ℕ) → space < space_bytes → space' < space_bytes
+    → planned t before space ≡ planned t before space'
+unfolding planned checked space_refusal
+planned_short t before space space' a b = rw (lt-leb space_bytes space a, lt-leb space_bytes space' b) refl
 
 -- ---- the lists, then the working space, then the rest
 

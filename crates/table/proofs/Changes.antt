@@ -1,4 +1,5 @@
--- Laws of a table with a row more, or without one of its rows: which row stands where, what the checks say, and that a plan without a row is a plan of the table without it.
+-- Laws of a table with a row more, or without one of its rows: which row stands where, what the checks say, and that
+-- a plan without a row is a plan of the table without it.
 use Prim.Native.Nat.{ℕ, zero, suc, ◌+◌, ◌-◌, ◌≤◌, ◌<◌}
 use mathlib.Core.Path.{◌≡◌, refl, sym, ap, subst, ◌∙◌}
 use mathlib.Core.Logic.{◌⊎◌, inl, inr}
@@ -127,7 +128,7 @@ module _ (t : Table) (k : ℕ) where
   pub row_without : (i : ℕ) → row_at (without_row t k) i ≡ row_at t (past k i)
   row_without i = λ j. row (at_without k t.starts i j) (at_without k t.ends i j) (at_without k t.marks i j)
 
-  -- the rows before it are where they were, "and later rows move up one"
+  -- the rows before it are where they were, and those after it moved up one
   pub row_earlier : (i : ℕ) → i < k → row_at (without_row t k) i ≡ row_at t i
   row_earlier i h = row_without i ∙ ap (row_at t) (past_earlier k i h)
 
@@ -180,7 +181,7 @@ module _ (t : Table) (k : ℕ) (h : k < rows t) (p : Passed (table_looked t).ref
       rw (eq-eqb (number_of (setting_refusal t.setting)) 0 (then_looked (setting_refusal t.setting) 0 (rows_looked t) p).0)
       (rows_pass (without_row t k) valid)
 
-  -- "A WITHDRAWAL FROM A TABLE THAT HAS A PLAN NEVER ENDS IN 8": planning the table without the row is accepted.
+  -- A WITHDRAWAL FROM A TABLE THAT HAS A PLAN NEVER ENDS IN 8: planning the table without the row is accepted.
   pub planned_without : (labels : List ℕ) → Plan t labels → (before : List ℕ) (space : ℕ) → length before ≡ rows (without_row t k) → Passed (space_refusal space)
       → (planned (without_row t k) before space).answer.refusal ≡ Accepted
   unfolding checked given

@@ -1,4 +1,5 @@
--- A call that passes all checks before 8 has a valid table; which refusals the checks can give, and that none before 8 gives 8.
+-- A call that passes all checks before 8 has a valid table; which refusals the checks can give, and that none before
+-- 8 gives 8.
 use Prim.Native.Nat.{ℕ, zero, suc, ◌+◌, ◌≤◌, ◌<◌}
 use mathlib.Core.Path.{◌≡◌, refl, sym, ◌∙◌}
 use mathlib.Core.Logic.{◌≢◌, ⊎_elim}
@@ -17,6 +18,7 @@ use Rattle.marks.specs.Marks.{max_mark}
 use Rattle.window.specs.declared.Row.{Row}
 use Rattle.window.specs.Windows.{is_window}
 use Rattle.window.specs.Gaps.{max_gap}
+use Rattle.window.specs.Ticks.{max_ticks}
 use Rattle.window.proofs.Meaning.{window_iff}
 use Rattle.refusals.specs.Refusals.{number_of, asked, passes, ◌then◌, Accepted, Lists, Rows, Space, Ticks, Hours, Gap, Window, Mark, Outcome}
 use Rattle.refusals.proofs.Refusals.{Passed, then_passed, asked_passed, then_either, asked_either}
@@ -74,11 +76,12 @@ module _ (S : Setting) where
   pub setting_passed : Passed (setting_refusal S) → ValidSetting S
   unfolding setting_refusal ticks_refusal gap_refusal
   setting_passed p =
-      let ticks = leb 2 S.ticks && leb S.ticks 43200 in
+      let ticks = leb 2 S.ticks && leb S.ticks max_ticks in
       let hours = hours_refusal S.kind S.ticks S.hours in
       let gap = leb S.gap max_gap in
       let f = then_passed (asked ticks Ticks) (hours then asked gap Gap) p in
-      let h = (and_iff (leb_iff 2 S.ticks) (leb_iff S.ticks 43200)).0 (asked_passed ticks Ticks (omega arith) f.0) in
+      let both = and_iff (leb_iff 2 S.ticks) (leb_iff S.ticks max_ticks) in
+      let h = both.0 (asked_passed ticks Ticks (omega arith) f.0) in
       let g = asked_passed gap Gap (omega arith) (then_passed hours (asked gap Gap) f.1).1 in
       record { ticks_least = h.0; ticks_most = h.1; gap_most = leb-true S.gap max_gap g }
 
@@ -164,7 +167,7 @@ module _ (P : Outcome → Type 0) (of : OfChecks P) where
   setting_gives : (S : Setting) → P (setting_refusal S)
   unfolding setting_refusal ticks_refusal gap_refusal
   setting_gives S =
-      then_either P (asks (leb 2 S.ticks && leb S.ticks 43200) of.ticks)
+      then_either P (asks (leb 2 S.ticks && leb S.ticks max_ticks) of.ticks)
       (then_either P (hours_give S.kind S.ticks S.hours) (asks (leb S.gap max_gap) of.gap))
 
   row_gives : (S : Setting) (row : Row) → P (row_refusal S row)

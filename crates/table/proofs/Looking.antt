@@ -50,7 +50,7 @@ module _ (t : Table) where
   unfolding look_from
   ahead_done i h a = let z : rows t - i ≡ 0 = omega arith in rw (a, z) refl
 
-  -- "if the table stops at row k": the rows before it pass, and it is refused
+  -- the checks stop at row k: the rows before it pass, and it is refused
   pub stops_at : length t.ends ≡ rows t → length t.marks ≡ rows t → (k : ℕ) → k < rows t → ((i : ℕ) → i < k → number_of (row_check t i) ≡ 0) → (number_of (row_check t k) ≡ 0 → ⊥)
       → rows_looked t ≡ looked (row_check t k) (k + 1)
   stops_at e m k h before n = sym (ahead_refused k (row_check t k) h (reached k (omega arith) before) refl n)

@@ -15,6 +15,7 @@ use Rattle.marks.specs.Marks.{max_mark}
 use Rattle.window.specs.declared.Row.{Row}
 use Rattle.window.specs.Windows.{is_window}
 use Rattle.window.specs.Gaps.{max_gap}
+use Rattle.window.specs.Ticks.{max_ticks}
 use Rattle.window.proofs.Meaning.{window_iff}
 use Rattle.refusals.specs.Refusals.{number_of, asked, ◌then◌, Lists, Rows, Ticks, Gap, Window, Mark, Outcome}
 use Rattle.refusals.proofs.Refusals.{Passed, asked_passes, then_passes}
@@ -34,11 +35,11 @@ module _ (S : Setting) where
   setting_passes : ValidSetting S → Passed (hours_refusal S.kind S.ticks S.hours) → Passed (setting_refusal S)
   unfolding setting_refusal ticks_refusal gap_refusal
   setting_passes v p =
-      let ticks = leb 2 S.ticks && leb S.ticks 43200 in
+      let ticks = leb 2 S.ticks && leb S.ticks max_ticks in
       let hours = hours_refusal S.kind S.ticks S.hours in
       let gap = leb S.gap max_gap in
       then_passes (asked ticks Ticks) (hours then asked gap Gap)
-      (asked_passes ticks Ticks ((and_iff (leb_iff 2 S.ticks) (leb_iff S.ticks 43200)).1 (v.ticks_least, v.ticks_most)))
+      (asked_passes ticks Ticks ((and_iff (leb_iff 2 S.ticks) (leb_iff S.ticks max_ticks)).1 (v.ticks_least, v.ticks_most)))
       (then_passes hours (asked gap Gap) p (asked_passes gap Gap ((leb_iff S.gap max_gap).1 v.gap_most)))
 
   row_passes : (row : Row) → ValidRow S row → Passed (row_refusal S row)

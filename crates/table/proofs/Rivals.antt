@@ -1,4 +1,5 @@
--- Demand 3: the right answer is the best plan, and refusal 8 where there is none; whatever has demand 3's properties is the right answer; and the best plan depends on a table only through `Allowed` and `Clash`.
+-- The right answer is the best plan, and refusal 8 where there is none; whatever is a best plan as `IsBestPlan` says
+-- is the right answer; and the best plan depends on a table only through `Allowed` and `Clash`.
 use Prim.Native.Nat.{ℕ, ◌≤◌, ◌<◌}
 use mathlib.Core.Path.{◌≡◌, refl, ap, ◌∙◌}
 use mathlib.Core.Logic.{◌≢◌, ◌↔◌}
@@ -12,7 +13,7 @@ use Rattle.labels.specs.Labels.{Best}
 use Rattle.labels.proofs.Best.{Passes, first_best_iff, first_none, best_iff, assignment_iff}
 use Rattle.refusals.specs.Refusals.{number_of, answered, Accepted, NoPlan, Answer}
 use Rattle.table.specs.Tables.{Table, rows, row_at, Allowed, Clash, Plan, Valid, is_plan}
-use Rattle.table.specs.Planned.{checked, best_plan, answering, given, planned, Demand3}
+use Rattle.table.specs.Planned.{checked, best_plan, answering, given, planned, IsBestPlan}
 use Rattle.table.proofs.Plans.{plan_iff}
 use Rattle.refusals.proofs.Refusals.{Passed}
 use Rattle.table.proofs.Checked.{checked_valid}
@@ -33,10 +34,10 @@ module _ (t : Table) (valid : Valid t) where
   unfolding best_plan
   no_plan = first_none (Plan t) (rows t) (is_plan t) searched
 
--- what is given is what demand 3 asks
-demanded : (t : Table) (o : Option (List ℕ)) (before : List ℕ) → best_plan t ≡ o → Valid t → Demand3 t (given o before).answer (given o before).labels
+-- what is given is as `IsBestPlan` says
+best_given : (t : Table) (o : Option (List ℕ)) (before : List ℕ) → best_plan t ≡ o → Valid t → IsBestPlan t (given o before).answer (given o before).labels
 unfolding given
-demanded t none before e valid =
+best_given t none before e valid =
     let n = (no_plan t valid).0 e in
     record {
       given = (λ q. absurd (never q), λ r. absurd (n r.0 r.1));
@@ -47,7 +48,7 @@ demanded t none before e valid =
   where
     never : NoPlan ≡ Accepted → ⊥
     never q = let z : ◌≡◌ {A = ℕ} 8 0 = ap number_of q in omega arith
-demanded t (some a) before e valid =
+best_given t (some a) before e valid =
     let b = (best_plan_iff t valid a).0 e in
     record {
       given = (λ q. (a, b.member), λ r. refl);
@@ -69,12 +70,12 @@ pub planned_refused : (t : Table) (before : List ℕ) (space : ℕ) → (number_
 unfolding planned
 planned_refused t before space n = rw (ne_eqb (number_of (checked t before space)) 0 n) refl
 
--- DEMAND 3, whole: for every table that passes all checks before 8, whatever the label list held before
-pub demand_3 : (t : Table) (before : List ℕ) (space : ℕ) → Passed (checked t before space) → Demand3 t (planned t before space).answer (planned t before space).labels
-demand_3 t before space p =
-    rw (planned_passed t before space p) (demanded t (best_plan t) before refl (checked_valid t before space p).0)
+-- THE PLANNER GIVES THE BEST PLAN, of every table that passes all checks before 8, whatever the label list held before
+pub best_plan_given : (t : Table) (before : List ℕ) (space : ℕ) → Passed (checked t before space) → IsBestPlan t (planned t before space).answer (planned t before space).labels
+best_plan_given t before space p =
+    rw (planned_passed t before space p) (best_given t (best_plan t) before refl (checked_valid t before space p).0)
 
--- and nothing else meets it: a best plan is what the planner gives,
+-- and nothing else is one: a best plan is what the planner gives,
 pub only_best : (t : Table) (before : List ℕ) (space : ℕ) → Passed (checked t before space) → (labels : List ℕ) → Best (Plan t) labels
     → planned t before space ≡ given (some labels) before
 only_best t before space p labels b =
@@ -86,8 +87,8 @@ pub only_none : (t : Table) (before : List ℕ) (space : ℕ) → Passed (checke
 only_none t before space p n =
     planned_passed t before space p ∙ ap (λ o. given o before) ((no_plan t (checked_valid t before space p).0).1 n)
 
--- WHATEVER MEETS DEMAND 3 is what the planner gives: each of its sentences is needed.
-module _ (t : Table) (before : List ℕ) (space : ℕ) (p : Passed (checked t before space)) (answer : Answer) (labels : List ℕ) (d : Demand3 t answer labels) where
+-- WHATEVER `IsBestPlan` HOLDS OF refuses as the planner does and, where it accepts, gives its answer and its labels.
+module _ (t : Table) (before : List ℕ) (space : ℕ) (p : Passed (checked t before space)) (answer : Answer) (labels : List ℕ) (d : IsBestPlan t answer labels) where
   valid : Valid t
   valid = (checked_valid t before space p).0
 
@@ -103,7 +104,7 @@ module _ (t : Table) (before : List ℕ) (space : ℕ) (p : Passed (checked t be
   unfolding given
   only_answer acc = rw (planned_passed t before space p, (best_plan_iff t valid labels).1 (d.best acc)) (λ i. answering (answered (acc i) (d.count acc i)) labels)
 
--- The best plan depends on a table only through which labels each row may have and which rows overlap.
+-- The best plan depends on a table only through which labels each row may have and which rows clash.
 pub same_best : (t u : Table) → Valid t → Valid u → rows t ≡ rows u
     → ((i x : ℕ) → i < rows t → Allowed t.setting (row_at t i) x ↔ Allowed u.setting (row_at u i) x)
     → ((i j : ℕ) → i < rows t → j < rows t → i ≢ j → Clash t.setting (row_at t i) (row_at t j) ↔ Clash u.setting (row_at u i) (row_at u j))

@@ -1,4 +1,5 @@
--- Believed: A table of windows as it is lent, what a plan of it is (paper 01, "What a plan is"), and the test for it.
+-- Believed: A table of windows as it is lent, what a plan of it is, and the test for it (docs/RULES.md, Plans and their
+-- order).
 use Rattle.std.specs.Prelude.{ℕ, zero, suc, ◌≤◌, ◌<◌, ◌≡◌, ◌≢◌, Bool, true, not, ◌&&◌, List, leb, eqb, length}
 use Rattle.basics.specs.Limits.{max_rows}
 use Rattle.basics.specs.Lists.{at}
@@ -10,6 +11,7 @@ use Rattle.window.specs.declared.Kind.TheVariants.{Round, Run}
 use Rattle.window.specs.declared.Row.{Row}
 use Rattle.window.specs.Rows.{row, starts_of, ends_of, marks_of}
 use Rattle.window.specs.Hours.{hour}
+use Rattle.window.specs.Ticks.{max_ticks}
 use Rattle.window.specs.Windows.{Window}
 use Rattle.window.specs.Gaps.{max_gap, TooClose, too_close}
 use Rattle.table.specs.declared.Setting.{Setting}
@@ -17,11 +19,11 @@ use Rattle.table.specs.declared.Table.{Table as Lent}
 
 -- ---- what is lent
 
--- a round or a run of R ticks, with the gap g (request 4 of paper 02), and in a run the receivers' open hours
+-- a round or a run of so many ticks, with a gap, and in a run the receivers' open hours
 abbrev pub setting_of : Kind → ℕ → ℕ → List (List ℕ) → Setting
 setting_of kind ticks gap hours = record { kind = kind; ticks = ticks; gap = gap; hours = hours }
 
--- "The table is lent as three lists, starts, ends and marks"
+-- a setting, and three lists with one entry for each row
 pub record Table : Type 0 where
   pub setting : Setting
   pub starts : List ℕ
@@ -42,7 +44,7 @@ table_of S rows = table S (starts_of rows) (ends_of rows) (marks_of rows)
 abbrev pub rows : Table → ℕ
 rows t = length t.starts
 
--- "Row i has a start and an end (16-bit numbers) and a mark"
+-- row i is entry i of each list
 abbrev pub row_of : List ℕ → List ℕ → List ℕ → ℕ → Row
 row_of starts ends marks i = row (at starts i) (at ends i) (at marks i)
 
@@ -51,14 +53,15 @@ row_at t = row_of t.starts t.ends t.marks
 
 -- ---- plans
 
--- "A receiver can take a window only if p ≤ start and end ≤ q. In a round both receivers are always open."
+-- The receiver that the label names is open for the whole window: in a run the window lies within its hours; in a round
+-- both receivers are always open. A row that is not heard needs none.
 abbrev pub Open : Kind → List (List ℕ) → Row → ℕ → Type 0
 Open Round hours row label = Unit {0}
 Open Run hours row zero = Unit {0}
 Open Run hours row (suc r) = (hour hours r 0 ≤ row.start) × (row.end ≤ hour hours r 1)
 
--- What a plan asks of a row's label: it is "0, 1 or 2", "every row marked must has 1 or 2", "labels that use the wrong receiver are no plan" (request 2 of paper 02),
--- "in a run each heard row lies in its receiver's hours".
+-- What a plan asks of a row's label: it is 0, 1 or 2; a row that must be heard has 1 or 2; a row that one receiver
+-- alone may hear does not have the other's label; and the receiver is open.
 pub record Allowed (S : Setting) (row : Row) (label : ℕ) : Type 0 where
   pub known : label ≤ 2
   pub must : Must row.mark → label ≢ 0
@@ -66,26 +69,31 @@ pub record Allowed (S : Setting) (row : Row) (label : ℕ) : Type 0 where
   pub receiver_2 : Receiver2Only row.mark → label ≢ 1
   pub hours : Open S.kind S.hours row label
 
--- Two rows cannot be heard by one receiver: their windows overlap or have fewer than g ticks between them. `Plan` asks it of different rows: "A window is never too close to itself."
+-- Two rows cannot be heard by one receiver: their windows overlap or have fewer ticks between them than the gap. `Plan`
+-- asks it of different rows alone, so that a window is never too close to itself.
 abbrev pub Clash : Setting → Row → Row → Type 0
 Clash S row row' = TooClose S.kind S.ticks S.gap row.start row.end row'.start row'.end
 
--- Labels are a plan: a two-track assignment as report CS-TR-149-88 means it (sections IV and VI, with a chosen subset). Unlike the report, paper 01 does not
--- take endpoints as distinct (touching windows do not overlap, equal windows do), nor the chosen subset, the must rows, as fitting.
+-- Labels are a plan of a table: there is one for each row, each row may have its own, and no two different rows that
+-- clash are heard by one receiver.
 abbrev pub Plan : Table → List ℕ → Type 0
-Plan t = Assignment (rows t) (λ i. Allowed t.setting (row_at t i)) (λ i j. Clash t.setting (row_at t i) (row_at t j))
+Plan t =
+    Assignment (rows t) (λ i. Allowed t.setting (row_at t i)) (λ i j. Clash t.setting (row_at t i) (row_at t j))
 
 -- ---- what the checks leave known
 
+-- of the setting: checks 4 and 14; no proof needs what check 5 says of the hours
 pub record ValidSetting (S : Setting) : Type 0 where
   pub ticks_least : 2 ≤ S.ticks
-  pub ticks_most : S.ticks ≤ 43200
+  pub ticks_most : S.ticks ≤ max_ticks
   pub gap_most : S.gap ≤ max_gap
 
+-- of a row: checks 6 and 7
 pub record ValidRow (S : Setting) (row : Row) : Type 0 where
   pub window : Window S.kind S.ticks row.start row.end
   pub mark : row.mark ≤ max_mark
 
+-- of the table: checks 1 and 2 of its own lists, and those of the setting and of each row
 pub record Valid (t : Table) : Type 0 where
   pub few : rows t ≤ max_rows
   pub each_end : length t.ends ≡ rows t

@@ -1,4 +1,5 @@
-// The checks of a table, in paper 01's order. Each says exactly what comes out for every input of every length.
+// The checks of a table, in the order in which they are made (docs/RULES.md, Refusals). Each contract says exactly
+// what comes out, for every input of every length.
 ghost use Rattle.std.specs.Prelude.{◌≡◌, ◌<◌, length};
 ghost use Rattle.table.specs.Tables.{lent};
 ghost use Rattle.table.specs.Checks.{lengths_refusal, ticks_refusal, is_hours, hours_refusal, gap_refusal, setting_refusal, row_refusal, rows_looked, table_looked};
@@ -7,9 +8,10 @@ use crate::{Looked, Rows, Setting, Table};
 use basics::MAX_ROWS;
 use marks::MAX_MARK;
 use refusals::Refusal;
-use window::{Kind, MAX_GAP, Row};
+use window::{Kind, MAX_GAP, MAX_TICKS, Row};
 
-// Checks 1 and 2, by the lengths of the four lists. Of numbers, and `Rows` has a method too: the words of `bit_words` are of starts and ends alone, which make no `Rows`.
+// Checks 1 and 2, by the lengths of the four lists: 1 where they are not all equal, 2 for more than 64 rows. It takes
+// lengths and no lists, since `bit_words` has starts and ends alone.
 #[tactic(auto, unfolding(crate::specs::Checks::lengths_refusal))]
 pub fn check_lists(starts: usize, ends: usize, marks: usize, labels: usize) -> Result<(), Refusal>
     ensures { result ≡ lengths_refusal starts ends marks labels }
@@ -24,20 +26,21 @@ pub fn check_lists(starts: usize, ends: usize, marks: usize, labels: usize) -> R
 }
 
 impl Rows<'_> {
-    // Checks 1 and 2 of a table's rows, for which so many labels are lent.
+    // Checks 1 and 2 of a table's rows, with a label list of this length.
     pub fn check_lists(self, labels: usize) -> Result<(), Refusal>
-        ensures { result ≡ lengths_refusal (length self.entry.starts.now) (length self.entry.ends.now) (length self.entry.marks.now) labels }
+        ensures { result ≡ lengths_refusal (length self.entry.starts.now)
+            (length self.entry.ends.now) (length self.entry.marks.now) labels }
     {
         check_lists(self.starts.len(), self.ends.len(), self.marks.len(), labels)
     }
 }
 
-// Check 4.
+// Check 4: a round or a run has from 2 to 43,200 ticks.
 #[tactic(auto, unfolding(crate::specs::Checks::ticks_refusal))]
 pub fn check_ticks(ticks: u16) -> Result<(), Refusal>
     ensures { result ≡ ticks_refusal ticks }
 {
-    if ticks < 2 || 43200 < ticks {
+    if ticks < 2 || MAX_TICKS < ticks {
         return Err(Refusal::Ticks);
     }
     Ok(())
@@ -52,7 +55,7 @@ fn is_hours(hours: [[u16; 2]; 2], ticks: u16, receiver: usize) -> bool
     open <= close && close <= ticks
 }
 
-// Check 5.
+// Check 5: in a run the hours of both receivers are in order.
 #[tactic(auto, unfolding(crate::specs::Checks::hours_refusal))]
 fn check_hours(kind: Kind, ticks: u16, hours: [[u16; 2]; 2]) -> Result<(), Refusal>
     ensures { result ≡ hours_refusal kind ticks hours }
@@ -65,7 +68,7 @@ fn check_hours(kind: Kind, ticks: u16, hours: [[u16; 2]; 2]) -> Result<(), Refus
     }
 }
 
-// Check 14.
+// Check 14: the gap is at most 600 ticks.
 #[tactic(auto, unfolding(crate::specs::Checks::gap_refusal))]
 pub fn check_gap(gap: u16) -> Result<(), Refusal>
     ensures { result ≡ gap_refusal gap }
@@ -76,7 +79,7 @@ pub fn check_gap(gap: u16) -> Result<(), Refusal>
     Ok(())
 }
 
-// Checks 4, 5 and 14.
+// Checks 4, 5 and 14, in this order.
 #[tactic(auto, unfolding(crate::specs::Checks::setting_refusal))]
 pub fn check_setting(setting: Setting) -> Result<(), Refusal>
     ensures { result ≡ setting_refusal setting }
@@ -86,7 +89,7 @@ pub fn check_setting(setting: Setting) -> Result<(), Refusal>
     check_gap(setting.gap)
 }
 
-// Checks 6 and 7 of one row. The setting comes apart from it, as in `plan`: it stands beside many rows.
+// Checks 6 and 7 of one row, in this order: start and end make a window, and the mark is at most 5.
 #[tactic(auto, unfolding(crate::specs::Checks::row_refusal))]
 pub fn check_row(setting: Setting, row: Row) -> Result<(), Refusal>
     ensures { result ≡ row_refusal setting row }
@@ -100,7 +103,8 @@ pub fn check_row(setting: Setting, row: Row) -> Result<(), Refusal>
     Ok(())
 }
 
-// Checks 6 and 7 of the rows from 0, as far as the first refusal. Lists of unequal length are refused before any row is looked at.
+// Checks 6 and 7 of the rows from row 0 on, as far as the first refusal. Lists of unequal length are refused 1 before
+// any row is looked at.
 pub fn check_rows(table: Table) -> Looked
     ensures { result ≡ rows_looked (lent table.entry) }
 {
@@ -125,7 +129,7 @@ pub fn check_rows(table: Table) -> Looked
     }
 }
 
-// Checks 4, 5 and 14, and then the rows for 6 and 7.
+// Checks 4, 5 and 14, and then the rows, each for 6 and then 7.
 #[tactic(auto, unfolding(crate::specs::Checks::table_looked))]
 pub fn check_table(table: Table) -> Looked
     ensures { result ≡ table_looked (lent table.entry) }

@@ -1,4 +1,4 @@
-// Tables of windows: the setting, rows, the checks of a table, and the test whether labels are a plan.
+// Tables of windows: the setting, the rows, the checks of a table, and the test whether labels are a plan.
 #![tactic(auto)]
 
 ghost use Rattle.std.specs.Prelude.{◌≡◌, length};
@@ -12,7 +12,8 @@ use window::{Kind, Row};
 pub mod checks;
 pub mod plan;
 
-// What all rows of a table share: a round or a run, its ticks, the ticks that a receiver needs between two windows, and the receivers' open hours, which count in a run alone.
+// What all rows of a table share: a round or a run, its ticks, the gap, which is how many ticks a receiver needs
+// between two windows, and the receivers' open hours, which count in a run alone.
 #[derive(Clone, Copy)]
 pub struct Setting {
     pub kind: Kind,
@@ -21,7 +22,8 @@ pub struct Setting {
     pub hours: [[u16; 2]; 2],
 }
 
-// What the checks of the rows report: whether the table passes, and how many rows were looked at, which counts on a refusal too: no Result of the rows. `refusal` is named as in the definitions.
+// What the checks of the rows report: a refusal or none, and how many rows were looked at, which a caller needs on a
+// refusal too.
 #[derive(Clone, Copy)]
 pub struct Looked {
     pub refusal: Result<(), Refusal>,
@@ -42,7 +44,7 @@ impl Setting {
     }
 }
 
-// "The table is lent as three lists, starts, ends and marks".
+// A table's rows as they are lent: row i is entry i of each list.
 #[derive(Clone, Copy)]
 pub struct Rows<'a> {
     pub starts: &'a [u16],
@@ -50,7 +52,7 @@ pub struct Rows<'a> {
     pub marks: &'a [u8],
 }
 
-// A table as it is lent.
+// A table as it is lent, before any check.
 #[derive(Clone, Copy)]
 pub struct Table<'a> {
     pub setting: Setting,

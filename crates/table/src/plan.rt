@@ -1,4 +1,4 @@
-// The test whether labels are a plan of a table: what refusal 9 asks.
+// The test whether labels are a plan of a table. The plan tape writer refuses labels that are none with 9.
 ghost use Rattle.std.specs.Prelude.{◌≡◌, true, ◌↔◌, ◌≤◌};
 ghost use Rattle.basics.specs.Tests.{every};
 ghost use Rattle.table.specs.Tables.{lent, Plan, is_open, is_allowed, clashes, is_apart, apart_at, is_plan, LabelIn, Valid};
@@ -6,7 +6,7 @@ ghost use Rattle.table.specs.Tables.{lent, Plan, is_open, is_allowed, clashes, i
 use crate::{Setting, Table};
 use window::{Kind, Row};
 
-// Whether the receiver of a heard row is open for its window. Setting and row come apart in the functions here: a setting stands beside many rows, and first in the other definitions.
+// Whether the receiver that hears a row is open for its window.
 fn is_open(setting: Setting, row: Row, label: u8) -> bool
     requires { (1 ≤ label) × (label ≤ 2) }
     ensures { result ≡ is_open setting.kind setting.hours row label }
@@ -18,7 +18,7 @@ fn is_open(setting: Setting, row: Row, label: u8) -> bool
     open <= row.start && row.end <= close
 }
 
-// Whether a row may have the label.
+// Whether a row may have the label: its mark allows it, and the receiver is open.
 #[tactic(auto, unfolding(crate::specs::Tables::is_allowed))]
 pub fn is_allowed(setting: Setting, row: Row, label: u8) -> bool
     ensures { result ≡ is_allowed setting row label }
@@ -26,7 +26,7 @@ pub fn is_allowed(setting: Setting, row: Row, label: u8) -> bool
     label <= 2 && marks::allows(row.mark, label) && (label == 0 || is_open(setting, row, label))
 }
 
-// Whether two rows cannot be heard by one receiver: their windows are too close.
+// Whether one receiver cannot hear both rows: their windows overlap, or have fewer ticks between them than the gap.
 #[tactic(auto, unfolding(crate::specs::Tables::clashes))]
 pub fn is_clash(setting: Setting, row: Row, row2: Row) -> bool
     ensures { result ≡ clashes setting row row2 }
@@ -43,7 +43,7 @@ fn is_apart(setting: Setting, row: Row, label: u8, row2: Row, label2: u8) -> boo
     label == 0 || label != label2 || !is_clash(setting, row, row2)
 }
 
-// Whether row i is apart from the rows before it. A `for` here and in `is_plan`: with `all` the proof that its result is the definition's did not close.
+// Whether row i is apart from the rows before it.
 #[tactic(auto, using(basics::proofs::Tests::every_more), unfolding(basics::specs::Tests::every))]
 fn is_apart_before(table: Table, labels: &[u8], i: usize) -> bool
     requires { LabelIn (lent table) labels.now i }
@@ -58,10 +58,12 @@ fn is_apart_before(table: Table, labels: &[u8], i: usize) -> bool
     true
 }
 
-// Whether the labels are a plan of the table. Of a table that fails a check it is what `is_plan` computes, and says nothing about plans.
+// Whether the labels are a plan of the table. Of a table that fails a check it is what the definition `is_plan`
+// computes, and says nothing about plans.
 pub fn is_plan(table: Table, labels: &[u8]) -> bool
     ensures computed { result ≡ is_plan (lent table.entry) labels.now }
-    ensures meaning { Valid (lent table.entry) → (result ≡ true) ↔ Plan (lent table.entry) labels.now }
+    ensures meaning { Valid (lent table.entry)
+        → (result ≡ true) ↔ Plan (lent table.entry) labels.now }
 {
     if !table.rows.is_even() {
         return false;

@@ -1,5 +1,5 @@
 -- The rule of the table of operand widths, proved once, by one computed test.
-use Prim.Native.Nat.{ℕ, ◌<◌}
+use Prim.Native.Nat.{ℕ, ◌≤◌, ◌<◌}
 use mathlib.Core.Path.{◌≡◌, refl, ap}
 use mathlib.Core.Bool.{true, false, not, Bool, ◌||◌}
 use native.Mathlib.Omega.{arith}
@@ -9,7 +9,7 @@ use lib.ListN.{get_or}
 use lib.Dec.{eqb}
 use Rattle.basics.specs.Tests.{every}
 use Rattle.std.proofs.lemmas.Bool.Decides.{Decides-eqb}
-use Rattle.basics.proofs.Tests.{every_iff, imp_iff}
+use Rattle.basics.proofs.Tests.{every_iff, imp_iff, leb_iff}
 use Rattle.tape.proofs.WidthTable.{widths}
 use Rattle.tape.specs.Commands.{operand_bytes, ROUND, RUN, RECEIVER, LISTEN, WINDOW, MUST, WINDOW1, MUST1, WINDOW2, MUST2, HOURS, STOP}
 
@@ -40,7 +40,7 @@ no_operands b h =
       ne_eqb b 0x7F (omega arith),
     )
 
--- "Any other byte is no command and has none."
+-- any other byte is no command and has no operands
 pub no_command : (b : ℕ) → is_command b ≡ false → operand_bytes b ≡ 0
 unfolding operand_bytes is_command every
 no_command b e = go (dec_lt b 128)
@@ -51,3 +51,15 @@ no_command b e = go (dec_lt b 128)
     go : Dec (b < 128) → operand_bytes b ≡ 0
     go (yes h) = below b h (ap not e)
     go (no h) = no_operands b (omega arith)
+
+-- no command has more than 8
+pub few_operands : (b : ℕ) → operand_bytes b ≤ 8
+unfolding operand_bytes every
+few_operands b = go (dec_lt b 128)
+  where
+    below : (i : ℕ) → i < 128 → operand_bytes i ≤ 8
+    below = (every_iff 128 (λ i h. leb_iff (operand_bytes i) 8)).0 refl
+
+    go : Dec (b < 128) → operand_bytes b ≤ 8
+    go (yes h) = below b h
+    go (no h) = omega (arith, no_operands b (omega arith))

@@ -1,7 +1,8 @@
--- Believed: The commands of a tape, how many bytes of operands each has (paper 01, "Tapes": "commands of one byte, each with operands of fixed widths"), and a command with its operands at the front of bytes.
+-- Believed: The commands of tapes, each of one byte, how many bytes of operands each has, and a command with its
+-- operands at the front of bytes (docs/RULES.md, Plan tapes, Fleet tapes).
 use Rattle.std.specs.Prelude.{ℕ, ◌+◌, Bool, cond, ◌&&◌, List, ltb, eqb, length, get_or, drop}
 
--- the command bytes, in the order of paper 01's table
+-- the commands' bytes
 abbrev pub ROUND : ℕ
 ROUND = 0x10
 
@@ -20,14 +21,14 @@ WINDOW = 0x40
 abbrev pub MUST : ℕ
 MUST = 0x41
 
--- "commands 42 to 45 hexadecimal, laid out as 40, for marks 2 to 5" (request 2 of paper 02): "2 and 3 may and must on receiver 1 only",
+-- rows that only receiver 1 can hear, may and must: laid out as WINDOW
 abbrev pub WINDOW1 : ℕ
 WINDOW1 = 0x42
 
 abbrev pub MUST1 : ℕ
 MUST1 = 0x43
 
--- "4 and 5 may and must on receiver 2 only"
+-- rows that only receiver 2 can hear, may and must
 abbrev pub WINDOW2 : ℕ
 WINDOW2 = 0x44
 
@@ -40,7 +41,8 @@ HOURS = 0x50
 abbrev pub STOP : ℕ
 STOP = 0x7F
 
--- The bytes of a command's operands: a 16-bit operand has two, an 8-bit operand one. Any other byte is no command and has none.
+-- The bytes of a command's operands: a 16-bit operand has two, an 8-bit operand one. Any other byte is no command and
+-- has none.
 unfoldable pub operand_bytes : ℕ → ℕ
 operand_bytes b =
     cond (eqb b ROUND) 2
@@ -56,15 +58,19 @@ operand_bytes b =
     (cond (eqb b HOURS) 8
     (cond (eqb b STOP) 0 0)))))))))))
 
+-- how many bytes a command takes with its operands
+abbrev pub command_bytes : ℕ → ℕ
+command_bytes command = 1 + operand_bytes command
+
 -- the command stands first, and all bytes of its operands follow
 unfoldable pub begins : ℕ → List ℕ → Bool
 unfolding operand_bytes
 begins command s = ltb (operand_bytes command) (length s) && eqb (get_or s 0 0) command
 
--- STOP is all that is left: "STOP as the last byte"
+-- STOP is all that is left
 abbrev pub stop_last : List ℕ → Bool
 stop_last s = begins STOP s && eqb (length s) 1
 
 -- what follows a command with its operands
 abbrev pub after : ℕ → List ℕ → List ℕ
-after command s = drop (1 + operand_bytes command) s
+after command s = drop (command_bytes command) s

@@ -1,4 +1,4 @@
--- Believed: 16-bit operands of a tape as two bytes; what a list of bytes is, and a place on it.
+-- Believed: A 16-bit operand of a tape as two bytes, high byte first; what a list of bytes is, and a place on it.
 use Rattle.std.specs.Prelude.{ℕ, ◌+◌, ◌*◌, ◌/◌, ◌%◌, ◌<◌, List, [], ◌∷◌, length, get_or}
 
 abbrev pub high_byte : ℕ → ℕ
@@ -7,7 +7,7 @@ high_byte n = n / 256
 abbrev pub low_byte : ℕ → ℕ
 low_byte n = n % 256
 
--- "16-bit operands have the high byte first"
+-- the two bytes of a 16-bit operand, high byte first
 abbrev pub word : ℕ → List ℕ
 word n = high_byte n ∷ low_byte n ∷ []
 
@@ -15,7 +15,7 @@ word n = high_byte n ∷ low_byte n ∷ []
 abbrev pub joined : ℕ → ℕ → ℕ
 joined high low = high * 256 + low
 
--- the 16-bit operand at place i, "the high byte first"
+-- the 16-bit operand at place i
 abbrev pub word_at : List ℕ → ℕ → ℕ
 word_at s i = joined (get_or s i 0) (get_or s (i + 1) 0)
 

@@ -1,11 +1,12 @@
-// The commands of a tape with the widths of their operands, and what stands at the front of the rest of a tape.
+// The commands of tapes with the widths of their operands, and what stands first on the rest of a tape
+// (docs/RULES.md, Plan tapes).
 #![tactic(auto)]
 
 ghost use Rattle.std.specs.Prelude.{◌≡◌, true, false, ◌+◌, MatchOption};
-ghost use Rattle.tape.specs.Commands.{operand_bytes, begins, stop_last, after};
+ghost use Rattle.tape.specs.Commands.{operand_bytes, command_bytes, begins, stop_last, after};
 ghost use Rattle.tape.specs.Words.{word_at, Inside};
 
-// A command is a byte and no enum: a tape may hold any byte.
+// The commands, each by the byte that it begins with.
 pub const ROUND: u8 = 0x10;
 
 pub const RUN: u8 = 0x11;
@@ -32,7 +33,8 @@ pub const HOURS: u8 = 0x50;
 
 pub const STOP: u8 = 0x7F;
 
-// The bytes of operands by command; 0 also for a byte that is no command.
+// The bytes of operands by command; 0 also for a byte that is no command. The readers and the writer take the length
+// of each command from this table alone.
 pub const OPERAND_BYTES: [u8; 128] = [
     0, 0, 0, 0, 0, 0, 0, 0, 0, 0, 0, 0, 0, 0, 0, 0, 2, // 10 ROUND
     2, // 11 RUN
@@ -61,16 +63,25 @@ pub fn operand_bytes(command: u8) -> usize
     }
 }
 
+// How many bytes a command takes with its operands.
+#[tactic(auto, using(crate::proofs::Widths::few_operands))]
+pub fn command_bytes(command: u8) -> usize
+    ensures { result ≡ command_bytes command }
+{
+    1 + operand_bytes(command)
+}
+
 // The bytes after a command with its operands, where the command stands first and all bytes of its operands follow.
 #[tactic(auto, using(crate::proofs::Heads::fits, crate::proofs::Heads::short, crate::proofs::Heads::other, std::proofs::lemmas::List::take_rest))]
 pub fn after(tape: &[u8], command: u8) -> Option<&[u8]>
-    ensures { MatchOption result (begins command tape.now ≡ false) (λ rest. (begins command tape.now ≡ true) × (rest.now ≡ after command tape.now)) }
+    ensures { MatchOption result (begins command tape.now ≡ false)
+        (λ rest. (begins command tape.now ≡ true) × (rest.now ≡ after command tape.now)) }
 {
-    let operands = operand_bytes(command);
-    if tape.len() <= operands || tape[0] != command {
+    let bytes = command_bytes(command);
+    if tape.len() < bytes || tape[0] != command {
         return None;
     }
-    Some(&tape[1 + operands..])
+    Some(&tape[bytes..])
 }
 
 // The 16-bit operand at a place.

@@ -1,4 +1,5 @@
--- Arcs that `arrange` has put in order: the assignments of the rows in order are those of the arcs as they came, and what the functions of `line` and `pairs` are lent.
+-- Arcs that `arrange` has put in order: the assignments of the rows in order are those of the arcs as they came, and
+-- what the functions of `line` and `pairs` are lent.
 use Prim.Native.Nat.{ℕ, ◌+◌, ◌≤◌, ◌<◌}
 use mathlib.Core.Path.{◌≡◌, sym, ap, ◌∙◌}
 use mathlib.Core.Logic.Iff

@@ -1,4 +1,5 @@
--- The first label of a permission: it is permitted and the others come later; what is left of a permission without it; a permission of one label.
+-- The first label of a permission: it is permitted and the others come later; what is left of a permission without it;
+-- a permission of one label.
 use Prim.Native.Nat.{ℕ, zero, suc, ◌+◌, ◌*◌, ◌-◌, ◌/◌, ◌%◌, ◌≤◌, ◌<◌}
 use mathlib.Core.Path.{◌≡◌, refl, sym, ap, ◌∙◌}
 use mathlib.Core.Logic.{◌≢◌}

@@ -1,5 +1,5 @@
--- Laws of `Narrowed`: what taking the labels found makes of the permissions, after rows were left their first labels and after a label was struck;
--- and that narrowing answers what is asked.
+-- Laws of `Narrowed`: what taking the labels found makes of the permissions, after rows were left their first labels
+-- and after a label was struck; and that narrowing answers what is asked.
 use Prim.Native.Nat.{ℕ, zero, suc, ◌+◌, ◌-◌, ◌≤◌, ◌<◌}
 use mathlib.Core.Path.{◌≡◌, refl, sym, ap, ◌∙◌}
 use mathlib.Core.Logic.{◌≢◌, ◌⊎◌, inl, inr, ⊎_elim}

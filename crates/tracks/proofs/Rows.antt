@@ -1,4 +1,5 @@
--- Assignments by rows of the table and by places in order: `Ordered` gives the assignments under any permissions, and what `pairs` says of places holds of rows.
+-- Assignments by rows of the table and by places in order: `Ordered` gives the assignments under any permissions, and
+-- what `pairs` says of places holds of rows.
 use Prim.Native.Nat.{ℕ, suc, ◌≤◌, ◌<◌}
 use mathlib.Core.Path.{◌≡◌, refl, sym, ap, subst, ◌∙◌}
 use mathlib.Core.Bool.{Bool, true}
@@ -16,7 +17,8 @@ use Rattle.pairs.specs.Ready.{Most, Rows}
 use Rattle.pairs.specs.Found.{LabelsFound, Found}
 use Rattle.tracks.specs.Narrowing.{Ordered, Permuted, Kept, Taken, Outcome}
 
--- A gives the assignments of n rows under permissions: a row has a label that is permitted, and nothing else depends on the permissions.
+-- A gives the assignments of n rows under permissions: a row has a label that is permitted, and nothing else depends on
+-- the permissions.
 pub record Family (n : ℕ) (A : List ℕ → List ℕ → Type 0) : Type 0 where
   pub each : {perms l : List ℕ} → A perms l → length l ≡ n
   pub allowed : {perms l : List ℕ} → A perms l → (r : ℕ) → r < n → permits (at perms r) (at l r) ≡ true

@@ -1,4 +1,5 @@
--- The steps of narrowing, one after the other: what the next call is lent, the loop that leaves rows their first labels, and the loop over the rows.
+-- The steps of narrowing, one after the other: what the next call is lent, the loop that leaves rows their first
+-- labels, and the loop over the rows.
 use Prim.Native.Nat.{ℕ, suc, ◌+◌, ◌-◌, ◌≤◌, ◌<◌}
 use mathlib.Core.Path.{◌≡◌, refl, sym, ap, subst, ◌∙◌}
 use mathlib.Core.Logic.{◌⊎◌, inl, inr}

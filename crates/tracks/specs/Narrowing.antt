@@ -1,4 +1,5 @@
--- Inner: Narrowing: row after row of the table is left one label, the first of 1, 2, 0 with which the most can still be heard. What is known of the permissions on the way.
+-- Inner: Narrowing: row after row of the table is left one label, the first of 1, 2, 0 with which the most can still be
+-- heard. What is known of the permissions on the way.
 use Rattle.std.specs.Prelude.{◌≡◌, ◌⊎◌, Bool, true, false, cond, List, ℕ, suc, ◌≤◌, ◌<◌, length}
 use Rattle.basics.specs.Lists.{at}
 use Rattle.labels.specs.Labels.{heard, place, Earlier}
@@ -12,7 +13,8 @@ pub record Ordered (positions ends order perms labels : List ℕ) : Type 0 where
   pub each : length labels ≡ length positions
   pub cleared : Cleared positions ends (gathered order perms) (gathered order labels)
 
--- `order` has each of n rows once: every row has a place, labels of the places are those of some labels of the rows, and they hear as many
+-- `order` has each of n rows once: every row has a place, labels of the places are those of some labels of the rows,
+-- and they hear as many
 pub record Permuted (n : ℕ) (order : List ℕ) : Type 0 where
   pub place : (r : ℕ) → r < n → (k : ℕ) × (k < n) × (at order k ≡ r)
   pub labels : (l : List ℕ) → length l ≡ n → (t : List ℕ) × (length t ≡ n) × (gathered order t ≡ l)
@@ -32,14 +34,16 @@ OneAt perms j = at perms j ≡ only (label_of (at perms j))
 abbrev pub OneBelow : List ℕ → ℕ → Type 0
 OneBelow perms i = (j : ℕ) → j < i → OneAt perms j
 
--- From the permissions `perms₀` to `perms`: no assignment is new, each that reaches the cap is still there or one that comes earlier is, and the rows below i have one label each.
+-- From the permissions `perms₀` to `perms`: no assignment is new, each that reaches the cap is still there or one that
+-- comes earlier is, and the rows below i have one label each.
 pub record Narrowed (A : List ℕ → List ℕ → Type 0) (cap : ℕ) (perms₀ perms : List ℕ) (i : ℕ) : Type 0 where
   pub each : length perms ≡ length perms₀
   pub within : (l : List ℕ) → A perms l → A perms₀ l
   pub covered : (l : List ℕ) → A perms₀ l → suc (heard l) ≡ cap → (k : List ℕ) × A perms k × (suc (heard k) ≡ cap) × ((k ≡ l) ⊎ Earlier k l)
   pub one : OneBelow perms i
 
--- The labels found are taken for the permissions: each that a row has in some assignment that reaches the cap, and none that was not permitted.
+-- The labels found are taken for the permissions: each that a row has in some assignment that reaches the cap, and none
+-- that was not permitted.
 pub record Taken (A : List ℕ → List ℕ → Type 0) (cap : ℕ) (perms perms' : List ℕ) : Type 0 where
   pub each : length perms' ≡ length perms
   pub reached : Reached A cap perms
@@ -51,7 +55,8 @@ pub record Taken (A : List ℕ → List ℕ → Type 0) (cap : ℕ) (perms perms
 abbrev pub Kept : List ℕ → List ℕ → Type 0
 Kept perms space = (r : ℕ) → r < length perms → found_at space r ≡ at perms r
 
--- The outcome of `take_found`: whether the cap is reached. If it is, the labels found are taken; else the permissions that were kept are.
+-- The outcome of `take_found`: whether the cap is reached. If it is, the labels found are taken; else the permissions
+-- that were kept are.
 pub record Outcome (A : List ℕ → List ℕ → Type 0) (cap : ℕ) (perms perms' space : List ℕ) (r : Bool) : Type 0 where
   pub yes : r ≡ true → Taken A cap perms perms'
   pub none : r ≡ false → (l : List ℕ) → A perms l → suc (heard l) < cap

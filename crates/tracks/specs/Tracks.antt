@@ -14,7 +14,8 @@ pub record Lent (C : ℕ) (starts lengths perms space : List ℕ) : Type 0 where
   pub each_perm : length perms ≡ length starts
   pub room : core_bytes ≤ length space
 
--- The answer of `best_assignment`: 0 where there is no assignment; else the permissions permit one label a row, those of the best assignment, and the answer is its count and one more.
+-- The answer of `best_assignment`: 0 where there is no assignment; else the permissions permit one label a row, those
+-- of the best assignment, and the answer is its count and one more.
 pub record Answered (C : List ℕ → Type 0) (r : ℕ) (perms : List ℕ) : Type 0 where
   pub none : r ≡ 0 → (l : List ℕ) → C l → ⊥
   pub found : 0 < r → Best C (map label_of perms)
@@ -26,7 +27,8 @@ pub record Solved (C : List ℕ → Type 0) (narrowing : Bool) (r : ℕ) (perms 
   pub answered : narrowing ≡ true → Answered C r perms'
   pub kept : narrowing ≡ false → perms' ≡ perms
 
--- what the rows are after `prepare`: in order, m of them crossing the cut, with the next rows of the others, and the space behind its first 4,608 bytes as it was
+-- what the rows are after `prepare`: in order, m of them crossing the cut, with the next rows of the others, and the
+-- space after the core's bytes as it was
 pub record Prepared (C : ℕ) (starts lengths positions ends order : List ℕ) (m : ℕ) (space space' : List ℕ) : Type 0 where
   pub arranged : Arranged C starts lengths positions ends order m
   pub next_rows : NextRows (drop m positions) (drop m ends) space'

@@ -12,10 +12,12 @@ use pairs::OrderedRows;
 
 mod narrowing;
 
-// That the bytes of the space after the core's are as they were is a clause of each function that writes to it, here, in `best_plan` and in `candidates`: a relation of what it
-// held before to what it holds after, which no field of a struct can state.
+// That the bytes of the space after the core's are as they were is a clause of each function that writes to it, here,
+// in `best_plan` and in `candidates`: it relates what the space held before to what it holds after, which no field of a
+// struct can state.
 
-// Turns the arcs into rows in order, `starts` into positions and `lengths` into ends, and sets the next rows of those that do not cross the cut; returns how many cross.
+// Turns the arcs into rows in order, `starts` into positions and `lengths` into ends, and sets the next rows of those
+// that do not cross the cut; returns how many cross.
 fn prepare(
     circle: u16,
     starts: &mut [u16],
@@ -33,8 +35,8 @@ fn prepare(
     m
 }
 
-// The most that can be heard and one more, 0 without an assignment; where narrowing is asked, the permissions are narrowed to the best assignment.
-// A flag, as in the record `Solved`: with a closure for the step the function that holds the arrays would be made twice, and its contract would have to say what any step leaves.
+// The most that can be heard and one more, 0 without an assignment; where narrowing is asked, the permissions are
+// narrowed to the best assignment.
 fn solve_lent(
     circle: u16,
     starts: &mut [u16],
@@ -92,9 +94,10 @@ fn solve(
     )
 }
 
-// The best assignment: 0 where there is none, else its count and one more, and its labels are those that `label_of` gives of the permissions then.
-// Both in one byte, and no Option, since callers rest on this contract: it is the value of a cell of the working space, in which the core counts throughout.
-// What else the permissions hold is open, and so is what is left of starts and lengths and of the first 4,608 bytes of the space.
+// The best two-track assignment (docs/RULES.md, Plans and their order): 0 where there is none, else its count and one
+// more, as a cell of the working space holds it, and its labels are those that `label_of` gives of the permissions
+// then. What else the permissions hold is open, and so is what is left of starts and lengths and of the first
+// `core_bytes` bytes of the space.
 pub fn best_assignment(
     circle: u16,
     starts: &mut [u16],
@@ -108,8 +111,9 @@ pub fn best_assignment(
     solve(circle, starts, lengths, perms, true, space)
 }
 
-// The count of the best assignment and one more, 0 where there is none. The permissions stay as they are; what is left of starts and lengths and of the first
-// 4,608 bytes of the space is open. It borrows the permissions as `best_assignment` does, so that one function holds the arrays for both.
+// The count of the best assignment and one more, 0 where there is none. The permissions stay as they are; what is left
+// of starts and lengths and of the first `core_bytes` bytes of the space is open. It borrows the permissions as
+// `best_assignment` does, so that one function holds the arrays for both.
 pub fn best_count(
     circle: u16,
     starts: &mut [u16],

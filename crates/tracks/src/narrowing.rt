@@ -74,8 +74,8 @@ fn take_found(
     reached
 }
 
-// Leaves as many rows as `ahead`, from i on, their first label, if the cap is still reached; else the permissions stay. One row alone is left to `narrow_row`.
-// The lists that are written stay parameters, as in `pairs`.
+// Leaves as many rows as `ahead`, from i on, their first label, if the cap is still reached; else the permissions stay.
+// One row alone is left to `narrow_row`. The lists that are written are parameters, as in `pairs`.
 fn try_ahead(
     rows: OrderedRows,
     perms: &mut [u8],
@@ -127,7 +127,8 @@ fn try_first(
     take_found(rows, perms, cap, left, space);
 }
 
-// Leaves row i the first label with which the cap is still reached: where its first label is struck there may be two more.
+// Leaves row i the first label with which the cap is still reached: where its first label is struck there may be two
+// more.
 fn narrow_row(
     rows: OrderedRows,
     perms: &mut [u8],
@@ -145,7 +146,8 @@ fn narrow_row(
     try_first(rows, perms, cap, left, space, i);
 }
 
-// Leaves row i one label, and the rows after it where `ahead` of them can have their first; returns how many to try next: twice as many, or one where they could not.
+// Leaves row i one label, and the rows after it where `ahead` of them can have their first; returns how many to try
+// next: twice as many, or one where they could not.
 fn narrow_ahead(
     rows: OrderedRows,
     perms: &mut [u8],

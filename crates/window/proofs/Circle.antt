@@ -1,4 +1,5 @@
--- `distance` without the remainder: a difference where the tick is at or after the start, and once round the circle where it is before.
+-- `distance` without the remainder: a difference where the tick is at or after the start, and once round the circle
+-- where it is before.
 use Prim.Native.Nat.{ℕ, ◌+◌, ◌-◌, ◌%◌, ◌≤◌, ◌<◌}
 use mathlib.Core.Path.{◌≡◌, ◌∙◌, ap, sym}
 use native.Mathlib.Omega.{arith}

@@ -1,5 +1,7 @@
--- Windows that are too close for one receiver (request 4 of paper 02): the test says what the definition means, for every R and g and all windows that pass check 6, run and round together; and what the
--- sentences of the request come to: the gap goes both ways, 0 asks what was asked before, a longer gap asks no less, g of 1 forbids touching, g ticks are enough, and a gap of R or more leaves a receiver one window.
+-- Windows that are too close for one receiver: the test says what the definition means, for every R and g and all
+-- windows that pass check 6, run and round together. What follows from the definition: the gap goes both ways, a gap of
+-- 0 forbids overlapping alone, a longer gap forbids no less, a gap of 1 forbids touching, g ticks are enough, and in a
+-- round a gap of R or more leaves a receiver one window.
 use Prim.Native.Nat.{ℕ, suc, ◌+◌, ◌-◌, ◌≤◌, ◌<◌}
 use mathlib.Core.Path.{◌≡◌, refl, sym, ◌∙◌}
 use mathlib.Core.Logic.{◌↔◌, ◌⊎◌, inl, inr, ⊎_elim}
@@ -115,7 +117,7 @@ module _ (kind : Kind) (R g s e s' e' : ℕ) where
         back (after n) = inl (inr n)
         back (before n) = inr (inr n)
 
-  -- it goes both ways: "the gaps on both sides must do"
+  -- it goes both ways
   pub too_close_sym : TooClose kind R g s e s' e' → TooClose kind R g s' e' s e
   too_close_sym (overlap o) = overlap (record { tick = o.tick; below = o.below; in_first = o.in_second; in_second = o.in_first })
   too_close_sym (after n) = before n
@@ -127,7 +129,7 @@ module _ (kind : Kind) (R g s e s' e' : ℕ) where
   too_close_more g' l (after n) = after (record { steps = n.steps; fewer = omega (arith, n.fewer); reached = n.reached })
   too_close_more g' l (before n) = before (record { steps = n.steps; fewer = omega (arith, n.fewer); reached = n.reached })
 
--- "g of 0 is the former behaviour": two windows are too close exactly if they overlap
+-- with a gap of 0 two windows are too close exactly if they overlap
 pub too_close_0 : (kind : Kind) (R s e s' e' : ℕ) → TooClose kind R 0 s e s' e' ↔ Overlap kind R s e s' e'
 too_close_0 kind R s e s' e' = (there, overlap)
   where
@@ -186,7 +188,7 @@ enough_in_round R g s e s' e' v w h gap h' side = enough Round R g s e s' e' v w
     other (on l m) = omega arith
     other (past l m) = omega arith
 
--- ---- "A receiver needs g ticks between two different windows": each of the g ticks after a window that lies in another makes the two too close
+-- ---- the g ticks after a window: one that has any of them is too close to it
 
 -- the last tick of a window: the one before its end
 last_in : (R s e : ℕ) → s < R → (1 ≤ e → In s e (e - 1)) × (e ≡ 0 → In s e (R - 1))

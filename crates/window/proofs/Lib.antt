@@ -2,6 +2,8 @@
 pub mod Circle
 pub mod Windows
 pub mod Meaning
+pub mod Listed
+pub mod PartDay
 pub mod AllDay
 pub mod Gaps
-pub mod Request6
+pub mod Distances

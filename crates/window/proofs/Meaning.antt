@@ -1,4 +1,5 @@
--- The tests of windows say what the definitions mean: `covers` the walk over the ticks, `overlaps` that some tick lies in both, `is_window` what check 6 asks. Run and round together.
+-- The tests of windows say what the definitions mean: `covers` the walk over the ticks, `overlaps` that some tick lies
+-- in both, `is_window` what check 6 asks. Run and round together.
 use Prim.Native.Nat.{ℕ, zero, suc, ◌+◌, ◌-◌, ◌≤◌, ◌<◌}
 use mathlib.Core.Path.{◌≡◌, refl, ◌∙◌, ap, sym}
 use mathlib.Core.Logic.{◌≢◌, ◌↔◌, ◌⊎◌, inl, inr, ⊎_elim}

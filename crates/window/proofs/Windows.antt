@@ -1,4 +1,5 @@
--- The test of check 6 says which starts and ends make a window, and where a window starts and ends. Run and round together.
+-- The test of check 6 says which starts and ends make a window, and where a window starts and ends. Run and round
+-- together.
 use Prim.Native.Nat.{ℕ, ◌≤◌, ◌<◌}
 use mathlib.Core.Path.{◌≡◌}
 use mathlib.Core.Logic.{◌↔◌}

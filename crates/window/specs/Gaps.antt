@@ -1,23 +1,25 @@
--- Believed: When two windows are too close for one receiver (request 4 of paper 02): "A receiver needs g ticks between two different windows", for a round and a run together.
+-- Believed: When two windows are too close for one receiver, which needs g ticks between them, for a round and a run
+-- together (docs/RULES.md, Gap).
 use Rattle.std.specs.Prelude.{ℕ, ◌+◌, ◌<◌, ◌≡◌, Bool, cond, ◌&&◌, ◌||◌, leb, ltb}
 use Rattle.window.specs.declared.Kind.{Kind}
 use Rattle.window.specs.declared.Kind.TheVariants.{Round, Run}
 use Rattle.window.specs.Windows.{walk, Overlap, covers}
 
--- "14, g above 600": the longest gap
+-- the longest gap; a longer one is refused with 14
 abbrev pub max_gap : ℕ
 max_gap = 600
 
 -- ---- the meaning
 
--- "fewer than g ticks between them": walking on from the end of one window, the start of the other is reached in fewer than g steps. Windows that touch have 0 ticks between them.
--- "In a round the gap is counted round the circle"; in a run the walk does not come back.
+-- Fewer than g ticks lie between the end of one window and the start of the other: walking on from that end, the start
+-- is reached in fewer than g steps, in none where the windows touch. In a round the walk goes on past the last tick, in
+-- a run it does not come back.
 pub record Near (kind : Kind) (R g end start : ℕ) : Type 0 where
   pub steps : ℕ
   pub fewer : steps < g
   pub reached : walk kind R end steps ≡ start
 
--- "whether two windows overlap or have fewer than g ticks between them"; "the gaps on both sides must do"
+-- two windows overlap, or fewer than g ticks lie between the end of one of them and the start of the other
 pub data TooClose (kind : Kind) (R g s e s' e' : ℕ) : Type 0 where
   overlap : Overlap kind R s e s' e' → TooClose kind R g s e s' e'
   after : Near kind R g e s' → TooClose kind R g s e s' e'

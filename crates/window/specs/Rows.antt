@@ -1,12 +1,12 @@
--- Believed: Rows, and the lists in which they are lent.
+-- Believed: Rows, and the lists in which they are lent (docs/RULES.md, Ticks and windows).
 use Rattle.std.specs.Prelude.{ℕ, List, map}
 use Rattle.window.specs.declared.Row.{Row}
 
--- "Row i has a start and an end (16-bit numbers) and a mark"
+-- a row has a start, an end and a mark
 abbrev pub row : ℕ → ℕ → ℕ → Row
 row start end mark = record { start = start; end = end; mark = mark }
 
--- "The table is lent as three lists, starts, ends and marks"
+-- a table is lent as three lists, its starts, its ends and its marks
 abbrev pub starts_of : List Row → List ℕ
 starts_of rows = map (λ r. r.start) rows
 

@@ -1,4 +1,5 @@
-// Ticks, windows and rows: how far a tick lies after a start, which tick comes next, whether a window is proper, whether it covers a tick, whether two windows overlap or are too close.
+// Ticks, windows and rows (docs/RULES.md, Ticks and windows; Gap): how far a tick lies after a start, which tick comes
+// next, whether a window is proper, whether it covers a tick, whether two windows overlap or are too close.
 #![tactic(auto)]
 
 ghost use Rattle.std.specs.Prelude.{◌≡◌, ◌↔◌, true, ℕ, ◌<◌};
@@ -7,7 +8,10 @@ ghost use Rattle.window.specs.Ticks.{Ticks, distance};
 ghost use Rattle.window.specs.Windows.{next, Covers, Overlap, Window as Proper, is_window, covers, ticks_in, lies_in, overlaps};
 ghost use Rattle.window.specs.Gaps.{TooClose, is_near, reaches, too_close};
 
-// "14, g above 600": the longest gap.
+// The longest round or run, in ticks.
+pub const MAX_TICKS: u16 = 43_200;
+
+// The longest gap, in ticks. A longer one is refused with 14.
 pub const MAX_GAP: u16 = 600;
 
 // A round is a day that repeats; a run is one stretch of time.
@@ -30,7 +34,7 @@ impl Kind {
     }
 }
 
-// "Row i has a start and an end (16-bit numbers) and a mark"; what a mark says is the crate `marks`.
+// A row of a table: its window and its mark. What a mark says is the crate `marks`.
 #[derive(Clone, Copy, Debug, PartialEq, Eq)]
 pub struct Row {
     pub start: u16,
@@ -81,7 +85,8 @@ impl Window {
         }
     }
 
-    // Whether the window covers the tick. Of a window that fails check 6 it is what `covers` computes, and says nothing about ticks.
+    // Whether the window covers the tick. Of a window that fails check 6 it is what `covers` computes, and says nothing
+    // about ticks.
     #[tactic(auto, unfolding(crate::specs::Windows::covers))]
     pub fn covers(self, tick: u16) -> bool
         ensures computed { result ≡ covers self.start self.end tick }
@@ -105,7 +110,8 @@ impl Window {
             && distance(ticks, self.start, tick) < self.length(kind, ticks)
     }
 
-    // Whether two windows overlap. Of windows that fail check 6 it is what `overlaps` computes, and says nothing about ticks.
+    // Whether two windows overlap. Of windows that fail check 6 it is what `overlaps` computes, and says nothing about
+    // ticks.
     #[tactic(auto, unfolding(crate::specs::Windows::overlaps))]
     pub fn overlaps(self, other: Window) -> bool
         ensures computed { result ≡ overlaps self.start self.end other.start other.end }
@@ -114,7 +120,8 @@ impl Window {
         self.covers(other.start) || other.covers(self.start)
     }
 
-    // Whether two windows overlap or have fewer than `gap` ticks between them. Of windows that fail check 6 it is what `too_close` computes, and says nothing about ticks.
+    // Whether two windows overlap or have fewer than `gap` ticks between them. Of windows that fail check 6 it is what
+    // `too_close` computes, and says nothing about ticks.
     #[tactic(auto, unfolding(crate::specs::Gaps::too_close))]
     pub fn is_too_close(self, kind: Kind, ticks: u16, gap: u16, other: Window) -> bool
         ensures computed { result ≡ too_close kind ticks gap self.start self.end other.start other.end }
@@ -132,8 +139,9 @@ impl Window {
     }
 }
 
-// "how far a tick lies after a window's start", on a circle of `ticks` ticks: "a comparison and at most two additions or subtractions", without division or remainder. The brackets
-// keep the sum within 16 bits, where the tick plus R need not be. No method of Window: the core measures from starts on circles of its own.
+// How many ticks after a start a tick lies on a circle of `ticks` ticks, without division or remainder. The brackets
+// keep the sum within 16 bits, which tick + ticks may leave. It is no method of Window: the core measures from starts
+// on circles of its own.
 #[tactic(auto, using(crate::proofs::Circle::distance_after, crate::proofs::Circle::distance_before))]
 pub fn distance(ticks: u16, start: u16, tick: u16) -> u16
     requires { Ticks ticks start tick }
@@ -146,8 +154,9 @@ pub fn distance(ticks: u16, start: u16, tick: u16) -> u16
     }
 }
 
-// Whether fewer than `gap` ticks lie between the end of a window and the start of another. Of any numbers, so that the sums take 32 bits. Kind and R, and g where it counts, come
-// one by one here and in the methods above: they are fields of `table::Setting`, and a struct of two or three of them within it would stand between each definition and the papers' names.
+// Whether fewer than `gap` ticks lie between the end of a window and the start of another. Of any numbers, so that the
+// sums take 32 bits. Kind, ticks and gap come one by one here and in the methods above: they are fields of
+// `table::Setting`, which stands in a crate above this one.
 #[tactic(auto, unfolding(crate::specs::Gaps::is_near))]
 fn is_near(kind: Kind, ticks: u16, gap: u16, end: u16, start: u16) -> bool
     ensures { result ≡ is_near kind ticks gap end start }

@@ -1,4 +1,5 @@
--- `best_plan::count_checked` meets its contract: the arcs and permissions that are counted for are those of the table and of the row more.
+-- `best_plan::count_checked` meets its contract: the arcs and permissions that are counted for are those of the table
+-- and of the row more.
 use Rattle.std.proofs.Common.{◌+◌, ◌≤◌, ◌∙◌, sym, ap, arith, rules}
 use Rattle.table.specs.Tables.{lent}
 use Rattle.best_plan.specs.Rows.{circle_of, with_more}

@@ -1,4 +1,5 @@
--- `candidates::try_row` meets its contract: the row is checked as it is lent, and then counted for as one that must be heard.
+-- `candidates::try_row` meets its contract: the row is checked as it is lent, and then counted for as one that must be
+-- heard.
 use Rattle.std.proofs.Common.{sym, ap, ◌∙◌}
 use Rattle.std.specs.Prelude.{Option, Some, ok_or}
 use Rattle.refusals.specs.declared.Refusal.TheVariants.{NoPlan}

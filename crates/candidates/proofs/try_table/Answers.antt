@@ -1,4 +1,5 @@
--- `candidates::try_table` meets its contract: each way through the checks and the planning of the table is a way to compute `table_tried`.
+-- `candidates::try_table` meets its contract: each way through the checks and the planning of the table is a way to
+-- compute `table_visit`.
 use Rattle.std.proofs.Common.{refl, sym, ap, ◌∙◌, arith}
 use Rattle.table.specs.declared.Looked.{Looked}
 use Rattle.refusals.specs.Refusals.{Accepted, NoPlan}
@@ -6,12 +7,13 @@ use Rattle.table.specs.Tables.{lent}
 use Rattle.table.proofs.Checked.{table_passed, table_looked_rows}
 use Rattle.best_plan.proofs.Clearing.{space_cleared}
 use Rattle.candidates.specs.Tried.{offered}
-use Rattle.candidates.proofs.Answering.{checks_passed, read_most, stopped, no_plan_given, all_given}
+use Rattle.candidates.proofs.Answering.{checks_passed, stopped, no_plan_given, all_given}
+use Rattle.candidates.proofs.Visiting.{read_most}
 use Rattle.candidates.proofs.try_table.Goals as goal
 
 pub returns-then-is_err : goal.returns-then-is_err
 returns-then-is_err c =
-    stopped _ (offered c.args.candidates) _ _ _ c.check_table-looked.ensures (sym c.is_err.ensures.value ∙ c.if-is_err.true)
+    stopped _ (offered c.args.candidates) _ _ _ c.requires.table_lent c.check_table-looked.ensures (sym c.is_err.ensures.value ∙ c.if-is_err.true)
 
 pub count_checked-best-requires : goal.count_checked-best-requires
 count_checked-best-requires c =
@@ -23,7 +25,7 @@ pub returns-then-is_none : goal.returns-then-is_none
 returns-then-is_none c =
     let best = c.count_checked-best in
     let space = space_cleared c.args.space.now best.new.space best.ensures.space_unchanged NoPlan refl c.clear_space.ensures in
-    no_plan_given _ (offered c.args.candidates) _ _ _ c.check_table-looked.ensures (sym c.is_err.ensures.value ∙ c.if-is_err.false) best.ensures.value c.is_none.ensures c.if-is_none.true space
+    no_plan_given _ (offered c.args.candidates) _ _ _ c.requires.table_lent c.check_table-looked.ensures (sym c.is_err.ensures.value ∙ c.if-is_err.false) best.ensures.value c.is_none.ensures c.if-is_none.true space
 
 pub answer_rows-read-requires-clause-table_passed : goal.answer_rows-read-requires-clause-table_passed
 answer_rows-read-requires-clause-table_passed c =
@@ -43,5 +45,5 @@ returns c =
     let best = c.count_checked-best in
     let read = c.answer_rows-read in
     let space = space_cleared c.args.space.now read.new.space (read.ensures.space_unchanged ∙ best.ensures.space_unchanged) Accepted refl c.clear_space-2.ensures in
-    all_given _ (offered c.args.candidates) _ _ _ c.check_table-looked.ensures (sym c.is_err.ensures.value ∙ c.if-is_err.false) best.ensures.value c.is_none.ensures c.if-is_none.false
+    all_given _ (offered c.args.candidates) _ _ _ c.requires.table_lent c.check_table-looked.ensures (sym c.is_err.ensures.value ∙ c.if-is_err.false) best.ensures.value c.is_none.ensures c.if-is_none.false
     read.ensures.value read.ensures.numbers_after read.ensures.counts_after space

@@ -4,7 +4,7 @@ use Prim.Native.Nat.{◌+◌, ◌*◌, ◌-◌}
 use native.Mathlib.Omega.{arith}
 use lib.ListN.{length}
 use lib.Seq.{drop-set-lt}
-use Rattle.line.specs.Cells.{line_bytes}
+use Rattle.line.specs.Cells.{line_bytes, next_from, across}
 use Rattle.line.proofs.Turns.{rest_at, turn_rest}
 use Rattle.line.proofs.Stages.{numbered_same, filled_first, stage_more, filled_last, filled_value, ready, must_within, must_none, must_same, must_here}
 use Rattle.line.proofs.line_best.Goals as goal
@@ -13,11 +13,11 @@ pub loop-j-init : goal.loop-j-init
 loop-j-init c =
     let highs = c.set_highs.ensures in
     let t = c.set_highs.new.space in
-    let n = numbered_same (omega arith) (λ j. rest_at c.args.space.now t line_bytes (4482 + j) highs.rest (omega arith)) c.requires in
+    let n = numbered_same (omega arith) (λ j. rest_at c.args.space.now t line_bytes (next_from + j) highs.rest (omega arith)) c.requires in
     record {
       must = must_none c.args.perms.now;
       filled = filled_first n highs.highs;
-      rest = drop-set-lt line_bytes t (length c.args.perms.now * 65 + length c.args.perms.now) 1 (omega arith) ∙ highs.rest;
+      rest = drop-set-lt line_bytes t (length c.args.perms.now * across + length c.args.perms.now) 1 (omega arith) ∙ highs.rest;
     }
 
 pub fill_turn-requires : goal.fill_turn-requires

@@ -1,4 +1,5 @@
--- `reply::put_rows` meets its contract. The loop's invariant: the lines of the first rows are put, and there is room for the others.
+-- `reply::put_rows` meets its contract. The loop's invariant: the lines of the first rows are put, and there is room
+-- for the others.
 use Rattle.std.proofs.Common.{◌+◌, ◌-◌, ◌*◌, ◌≤◌, length, take}
 use Rattle.basics.specs.Lists.{Put}
 use Rattle.reply.specs.Lines.{row_lines}

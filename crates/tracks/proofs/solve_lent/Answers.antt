@@ -1,4 +1,5 @@
--- `solve_lent` meets its contract: the most of the rows in order is that of the arcs, and narrowing, where it is asked for, finds the best assignment.
+-- `solve_lent` meets its contract: the most of the rows in order is that of the arcs, and narrowing, where it is asked
+-- for, finds the best assignment.
 use mathlib.Core.Path.{◌∙◌}
 use native.Mathlib.Omega.{arith}
 use lib.Dec.{lit≤}

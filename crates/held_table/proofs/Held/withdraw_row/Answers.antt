@@ -1,4 +1,5 @@
--- `held_table::Held::withdraw_row` meets its contract: the shorter table is planned, and after a refusal the rows are moved back.
+-- `held_table::Held::withdraw_row` meets its contract: the shorter table is planned, and after a refusal the rows are
+-- moved back.
 use Rattle.std.proofs.Common.{◌-◌, ap, ◌∙◌, refl, arith}
 use Rattle.std.specs.Prelude.{Err}
 use Rattle.refusals.proofs.Refusals.{err_refuses}

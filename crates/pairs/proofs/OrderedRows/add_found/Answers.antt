@@ -1,4 +1,5 @@
--- `add_found` meets its contract: what the line program left still stands when the labels of the crossing rows are added.
+-- `add_found` meets its contract: what the line program left still stands when the labels of the crossing rows are
+-- added.
 use Prim.Native.Nat.{◌+◌}
 use native.Mathlib.Omega.{arith}
 use lib.ListN.{length-drop}

@@ -1,4 +1,5 @@
--- `best` meets its contract: the loops have tried or passed over the pairs from (m, m) downwards, and labels leave no meeting arcs on one receiver exactly if some pair fits them.
+-- `best` meets its contract: the loops have tried or passed over the pairs from (m, m) downwards, and labels leave no
+-- meeting arcs on one receiver exactly if some pair fits them.
 use Prim.Native.Nat.{◌-◌}
 use mathlib.Core.Path.{◌≡◌}
 use native.Mathlib.Omega.{arith}

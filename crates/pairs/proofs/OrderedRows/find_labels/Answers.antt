@@ -1,4 +1,5 @@
--- `find_labels` meets its contract: over the pairs from (m, m) downwards, the labels of the assignments that reach the cap are found.
+-- `find_labels` meets its contract: over the pairs from (m, m) downwards, the labels of the assignments that reach the
+-- cap are found.
 use mathlib.Core.Path.{◌∙◌}
 use native.Mathlib.Omega.{arith}
 use Rattle.line.specs.Cells.{line_bytes, next_from}

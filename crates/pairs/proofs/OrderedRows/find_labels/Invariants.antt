@@ -1,4 +1,5 @@
--- `find_labels` meets its contract: over the pairs from (m, m) downwards, the labels of the assignments that reach the cap are found.
+-- `find_labels` meets its contract: over the pairs from (m, m) downwards, the labels of the assignments that reach the
+-- cap are found.
 use Rattle.pairs.specs.Pairs.{gathered}
 use Rattle.pairs.proofs.Trials.{FirstFrom, SecondFrom}
 use Rattle.pairs.proofs.Finding.{Finding}

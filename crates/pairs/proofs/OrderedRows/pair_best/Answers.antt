@@ -1,4 +1,5 @@
--- `pair_best` meets its contract: a row without a label leaves no labels; else the value is that of the line and the pair's rows.
+-- `pair_best` meets its contract: a row without a label leaves no labels; else the value is that of the line and the
+-- pair's rows.
 use mathlib.Core.Path.{sym, ◌∙◌}
 use Rattle.std.proofs.lemmas.List.{take_rest}
 use Rattle.pairs.proofs.Leaves.{leaving_none}

@@ -1,4 +1,5 @@
--- `plan_reader::judged::is_plan_tape` meets its contract: the items that it takes are those of the tape's parts, and each test is a clause of `is_plan_tape`. What that means is `taken_iff`.
+-- `plan_reader::judged::is_plan_tape` meets its contract: the items that it takes are those of the tape's parts, and
+-- each test is a clause of `is_plan_tape`. What that means is `taken_iff`.
 use Rattle.std.proofs.Common.{refl, sym, ap, ◌∙◌, arith}
 use borrow.Enum.Refused.{opened}
 use Rattle.tape.specs.Commands.{stop_last}

@@ -1,4 +1,5 @@
--- `plan_reader::judged::take_listens` meets its contract: the bytes after the LISTENs are those after the LISTENs that are left.
+-- `plan_reader::judged::take_listens` meets its contract: the bytes after the LISTENs are those after the LISTENs
+-- that are left.
 use Rattle.std.proofs.Common.{◌≡◌, length}
 use Rattle.plan_tape.specs.Stated.{listens_in, after_listens}
 use Rattle.plan_reader.specs.Items.{left}

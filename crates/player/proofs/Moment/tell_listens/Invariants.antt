@@ -1,4 +1,5 @@
--- `player::Moment::tell_listens` meets its contract. The loop's invariant: what all LISTENs tell is what those that are left tell after what was told so far.
+-- `player::Moment::tell_listens` meets its contract. The loop's invariant: what all LISTENs tell is what those that are
+-- left tell after what was told so far.
 use Rattle.std.proofs.Common.{◌≡◌, length}
 use Rattle.plan_tape.specs.Stated.{listens_in, after_listens}
 use Rattle.plan_reader.specs.Items.{left}

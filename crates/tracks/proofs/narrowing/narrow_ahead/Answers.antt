@@ -1,4 +1,5 @@
--- `narrow_ahead` meets its contract: a row of one label stays, and after an attempt in vain the permissions are as they were.
+-- `narrow_ahead` meets its contract: a row of one label stays, and after an attempt in vain the permissions are as they
+-- were.
 use mathlib.Core.Path.{◌∙◌}
 use Rattle.tracks.proofs.Turns.{row_done, row_back}
 use Rattle.tracks.proofs.narrowing.narrow_ahead.Goals as goal

@@ -1,4 +1,5 @@
--- `take_found` meets its contract: what `pairs` says of the places holds of the rows, and the permissions are what then stands beside.
+-- `take_found` meets its contract: what `pairs` says of the places holds of the rows, and the permissions are what then
+-- stands beside.
 use mathlib.Core.Path.{sym}
 use Rattle.tracks.proofs.Rows.{places_most, found_outcome}
 use Rattle.tracks.proofs.Turns.{kept_between}

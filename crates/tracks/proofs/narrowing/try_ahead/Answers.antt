@@ -1,4 +1,5 @@
--- `try_ahead` meets its contract: the rows that were left their first labels have one label each where the cap is still reached; else the permissions are back.
+-- `try_ahead` meets its contract: the rows that were left their first labels have one label each where the cap is still
+-- reached; else the permissions are back.
 use native.Mathlib.Omega.{arith}
 use Rattle.tracks.proofs.Turns.{fixed_ready, fixed_taken, attempt_back}
 use Rattle.tracks.proofs.narrowing.try_ahead.Goals as goal

@@ -1,4 +1,5 @@
--- `try_first` meets its contract: the first label stays where the cap is still reached with it alone; else no assignment that reaches the cap has it.
+-- `try_first` meets its contract: the first label stays where the cap is still reached with it alone; else no
+-- assignment that reaches the cap has it.
 use mathlib.Core.Path.{◌∙◌}
 use native.Mathlib.Omega.{arith}
 use Rattle.tracks.proofs.Turns.{fixed_ready, first_fixed, first_taken, first_below, struck_ready, struck_taken, row_same}

@@ -1,0 +1,2 @@
+-- Worked examples of what C is handed.
+pub mod Bench
