@@ -53,7 +53,11 @@ fn compile(name: &str, source: &Path, folder: &Path, uses: &[&str]) {
         rustc.args(["--extern", used]);
     }
     run(&mut rustc);
-    fs::copy(folder.join(format!("lib{name}.rlib")), folder.join(format!("lib{name}.a"))).expect("a copy of the compiled crate");
+    fs::copy(
+        folder.join(format!("lib{name}.rlib")),
+        folder.join(format!("lib{name}.a")),
+    )
+    .expect("a copy of the compiled crate");
 }
 
 fn link_portable() {
@@ -61,7 +65,10 @@ fn link_portable() {
     let folder = Path::new(&variable("OUT_DIR")).to_path_buf();
     println!("cargo:rerun-if-changed={}", repository.join("tools/portable").display());
     println!("cargo:rerun-if-changed={}", repository.join("crates.txt").display());
-    for crate_folder in fs::read_dir(repository.join("crates")).expect("the folder crates").flatten() {
+    for crate_folder in fs::read_dir(repository.join("crates"))
+        .expect("the folder crates")
+        .flatten()
+    {
         println!("cargo:rerun-if-changed={}", crate_folder.path().join("src").display());
     }
     let portable = folder.join("portable");

@@ -1,13 +1,16 @@
-/* Tests include/hubplan.h by itself: every function is called as the header declares it, on paper 01's session, on runs with unequal hours, with each mark, with windows that
- * cover every tick, with gaps, on held tables, with candidates, with words of one bit per row, with working space of several lengths, at each limit and for each refusal, and every
- * constant, field and parameter is compared with the papers'. The numbers here are the papers', since the header's constants are what is tested.
+/* Tests include/hubplan.h by itself: every function is called as the header declares it, on the session's round, on
+ * runs with unequal hours, with each mark, with windows that cover every tick, with gaps, on held tables, with
+ * candidates, with words of one bit per row, with working space of several lengths, at each limit and for each
+ * refusal, and every constant, field and parameter is compared. The numbers here are those of docs/RULES.md, since the
+ * header's constants are what is tested. P1 to P10 are tables of crates/conformance/src/bench.rt; P2 is the session's.
  *
  *   gcc -std=c99 -Wall -Wextra -Wpedantic -Werror -Iinclude tests/header.c target/staticlib/libhub_c.a -o target/header && target/header
  */
 #include <stdio.h>
 #include <string.h>
 
-/* C ignores the names of parameters, so an exchange of hours is seen only in the text: each declaration is also kept as a string. */
+/* C ignores the names of parameters, so an exchange of hours is seen only in the text: each declaration is also kept
+ * as a string. */
 #define hub_plan_round(...) hub_plan_round(__VA_ARGS__); static const char plan_round_takes[] = #__VA_ARGS__
 #define hub_plan_run(...) hub_plan_run(__VA_ARGS__); static const char plan_run_takes[] = #__VA_ARGS__
 #define hub_write_plan_round(...) hub_write_plan_round(__VA_ARGS__); static const char write_round_takes[] = #__VA_ARGS__
@@ -49,7 +52,7 @@
 
 #define ROWS 64
 #define SPACE 4608
-#define FORMER 16384 /* the working space that a call needed and cleared before request 9 */
+#define AMPLE 16384 /* far more working space than a call needs and clears */
 #define TAPE 392
 #define REPLY 400
 #define BEYOND 16   /* room after each output, which no call may touch */
@@ -92,7 +95,7 @@ struct fleet {
     size_t length;
 };
 
-static uint8_t space[FORMER + BEYOND];
+static uint8_t space[AMPLE + BEYOND];
 static uint8_t tape[TAPE + BEYOND];
 static uint8_t out[REPLY + BEYOND];
 
@@ -100,7 +103,7 @@ static uint8_t out[REPLY + BEYOND];
 static uint64_t word_room[BEYOND + ROWS + 1 + BEYOND];
 static uint8_t label_room[BEYOND + ROWS + 1 + BEYOND];
 
-/* The header's refusals at the papers' numbers. */
+/* The header's refusals at their numbers. */
 static const unsigned refusals[17] = {HUB_ACCEPTED, HUB_LISTS,   HUB_ROWS,     HUB_SPACE,  HUB_TICKS, HUB_HOURS, HUB_WINDOW, HUB_MARK,
                                       HUB_NO_PLAN,  HUB_NOT_PLAN, HUB_BUFFER,  HUB_FORM,   HUB_TAPE,  HUB_FIRST_TICK, HUB_GAP, HUB_NO_ROW,
                                       HUB_CANDIDATES};
@@ -141,7 +144,7 @@ static bool all_are(const void *bytes, size_t length, uint8_t value)
 
 static void check_refusal(const char *what, unsigned got, unsigned number)
 {
-    check(what, "the refusal by the papers' number", got == number);
+    check(what, "the refusal by its number", got == number);
     check(what, "the refusal by the header's constant", got == refusals[number]);
 }
 
@@ -479,7 +482,8 @@ static void stays_finished(const char *what, const uint8_t *bytes, size_t length
     check(what, "the player is as it was", s.player.tick == tick);
 }
 
-/* Starts a player on a tape of 100 ticks and follows it for so many steps, none of them after a run's last tick; gives the player after them. */
+/* Starts a player on a tape of 100 ticks and follows it for so many steps, none of them after a run's last tick;
+ * gives the player after them. */
 static struct hub_player played(const char *what, const uint8_t *bytes, size_t length, uint16_t first, unsigned steps, const struct told *told)
 {
     struct hub_started s = hub_player_start(bytes, length, first);
@@ -808,7 +812,7 @@ static void clash_refused(const char *what, const struct lent *t, size_t places,
 static void constants(void)
 {
     for (unsigned i = 0; i < 17; i++)
-        check("a refusal", "its constant is the papers' number", refusals[i] == i);
+        check("a refusal", "its constant is its number", refusals[i] == i);
     check("marks", "for either receiver", HUB_MAY == 0 && HUB_MUST == 1);
     check("marks", "for receiver 1 only", HUB_MAY_1 == 2 && HUB_MUST_1 == 3);
     check("marks", "for receiver 2 only", HUB_MAY_2 == 4 && HUB_MUST_2 == 5);
@@ -926,7 +930,7 @@ static void parameters(void)
     end_group("parameters");
 }
 
-/* P1 to P4, and paper 01's plan tape and reply for P2. */
+/* P1 to P4, and the session's plan tape and reply. */
 static void rounds(void)
 {
     struct lent t = session();
@@ -952,7 +956,8 @@ static void rounds(void)
     end_group("rounds");
 }
 
-/* P9 and P10: each exchange of two of the hours gives another plan or a refusal. In 200 ticks R is none of the hours. */
+/* P9 and P10: each exchange of two of the hours gives another plan or a refusal. In 200 ticks R is none of the
+ * hours. */
 static void runs(void)
 {
     struct lent t = p9();
@@ -1032,7 +1037,8 @@ static void marks_planned(bool run)
     }
 }
 
-/* One row with every mark: the planner refuses those from 6 on, and the writer takes exactly the labels that the mark allows. */
+/* One row with every mark: the planner refuses those from 6 on, and the writer takes exactly the labels that the
+ * mark allows. */
 static void every_mark(bool run)
 {
     static const char *const allowed[6] = {"012", "12", "01", "1", "02", "2"};
@@ -1065,7 +1071,8 @@ static void every_mark(bool run)
     }
 }
 
-/* A row with each mark, and the bytes on both sides of the commands of rows in the place of the first row and of the last. */
+/* A row with each mark, and the bytes on both sides of the commands of rows in the place of the first row and of the
+ * last. */
 static void marks_read(bool run)
 {
     uint16_t windows[6][2] = {{0, 1}, {2, 3}, {4, 5}, {6, 7}, {8, 9}, {1, 0x0A09}};
@@ -1154,7 +1161,8 @@ static void all_day_taken(bool run, uint16_t ticks)
     }
 }
 
-/* LISTEN s s of row 1 on receiver 1 beside two LISTENs on receiver 2: written, read back and played for two days from every tick, which tells the end at every tick. */
+/* LISTEN s s of row 1 on receiver 1 beside two LISTENs on receiver 2: written, read back and played for two days
+ * from every tick, which tells the end at every tick. */
 static void all_day_played(uint8_t s)
 {
     const uint8_t bytes[26] = {0x10, 0, 100, 0x20, 1, 0x30, 1, 0, s, 0, s, 0x20, 2, 0x30, 2, 0, 20, 0, 40, 0x30, 0, 0, 90, 0, 10, 0x7F};
@@ -1633,7 +1641,8 @@ static void held_begins(void)
     end_group("held tables begun");
 }
 
-/* Worked examples, call by call: begun with ticks and gap, a row added, by start, end and mark, or withdrawn, by its number; and the labels then, none for refusal 8. */
+/* Worked examples, call by call: begun with ticks and gap, a row added, by start, end and mark, or withdrawn, by its
+ * number; and the labels then, none for refusal 8. */
 static void held_examples(void)
 {
     enum { BEGIN, ADD, WITHDRAW };
@@ -1737,7 +1746,8 @@ static void held_refusals(void)
     end_group("refusals of held tables");
 }
 
-/* P4 with faults that no call leaves: mended one by one, a call looks at its own 2 or 15 first and then at all that the planner looks at. */
+/* P4 with faults that no call leaves: mended one by one, a call looks at its own 2 or 15 first and then at all that
+ * the planner looks at. */
 static void held_faults(void)
 {
     struct held h = begun("faults", 100, 0, 0);
@@ -1793,7 +1803,8 @@ static void held_too_many(void)
     end_group("held tables of too many rows");
 }
 
-/* P2 and P9 with candidates, worked out by hand: beside all rows, over some, all day, for one receiver, outside the hours, and with faults. */
+/* P2 and P9 with candidates, worked out by hand: beside all rows, over some, all day, for one receiver, outside the
+ * hours, and with faults. */
 static void candidate_examples(void)
 {
     static uint16_t of_p2[8][3] = {{50, 90, 0}, {25, 30, 0}, {30, 50, 1}, {7, 7, 2}, {50, 100, 0}, {50, 60, 6}, {100, 60, 6}, {50, 90, 5}};
@@ -1889,7 +1900,8 @@ static void candidate_lists(bool run)
     }
 }
 
-/* Wrong in every way: mended one by one, the refusals come in the order that the header gives, each with the rows looked at. */
+/* Wrong in every way: mended one by one, the refusals come in the order that the header gives, each with the rows
+ * looked at. */
 static void candidate_refusals(const char *what, bool run)
 {
     uint16_t rows[1][3] = {{200, 200, 9}};
@@ -1939,7 +1951,8 @@ static void all_candidate_refusals(void)
     end_group("refusals of candidates");
 }
 
-/* P2, or P9 in a run, in so many bytes: planned, from its fleet tape and beside a candidate; then with three rows that must be heard and cannot all be. */
+/* P2, or P9 in a run, in so many bytes: planned, from its fleet tape and beside a candidate; then with three rows
+ * that must be heard and cannot all be. */
 static void plans_in(const char *what, bool run, size_t space_length)
 {
     uint16_t rows[1][3] = {{60, 90, 0}}; /* beside all rows */
@@ -1954,7 +1967,8 @@ static void plans_in(const char *what, bool run, size_t space_length)
     try_refused(what, &c, 8, t->starts_length);
 }
 
-/* Rows added and withdrawn in so many bytes; then, of four rows that no call leaves, three that must be heard at once. */
+/* Rows added and withdrawn in so many bytes; then, of four rows that no call leaves, three that must be heard at
+ * once. */
 static void changes_in(const char *what, size_t space_length)
 {
     struct held h = begun(what, 100, 0, 0);
@@ -1990,7 +2004,7 @@ static void too_few(const char *what, bool run, size_t space_length)
 /* Both sides of 4,608 and of 16,384, up to all that is there. */
 static void space_lengths(void)
 {
-    static const size_t lengths[8] = {0, 1, SPACE - 1, SPACE, SPACE + 1, FORMER - 1, FORMER, FORMER + BEYOND};
+    static const size_t lengths[8] = {0, 1, SPACE - 1, SPACE, SPACE + 1, AMPLE - 1, AMPLE, AMPLE + BEYOND};
     for (size_t i = 0; i < 16; i++) {
         size_t length = lengths[i / 2];
         bool run = i % 2;
@@ -2065,7 +2079,8 @@ static void words_of_labels_refused(void)
     end_group("labels that cannot be carried");
 }
 
-/* A one at each place of each word, for each row count: below it and from it up; and a receiver bit of a row not heard, below it. */
+/* A one at each place of each word, for each row count: below it and from it up; and a receiver bit of a row not
+ * heard, below it. */
 static void labels_of_words_refused(void)
 {
     for (size_t rows = 0; rows <= ROWS; rows++) {
@@ -2202,7 +2217,8 @@ static void clash_limits(bool run)
     clashed("599 ticks on to the first", &t, run ? none : two);
 }
 
-/* Wrong in every way: mended one by one, the refusals come in the order that the header gives. Marks and hours stay wrong, as none are lent. */
+/* Wrong in every way: mended one by one, the refusals come in the order that the header gives. Marks and hours stay
+ * wrong, as none are lent. */
 static void clash_refusals(const char *what, bool run)
 {
     uint64_t words[ROWS];

@@ -1,5 +1,6 @@
-/* Makes the fleet tapes that tests/program runs `hubplan` on: KIND-NUMBER.tape and, with the reply of the proved function hub_reply, KIND-NUMBER.expected. Where the
- * papers say what the reply is, the proved function's is compared with that first.
+/* Makes the fleet tapes that tests/program runs `hubplan` on: KIND-NUMBER.tape and, with the reply of the proved
+ * function hub_reply, KIND-NUMBER.expected. Where the reply is worked out by hand, the function's is compared with that
+ * first.
  *
  *   program make FOLDER     makes the tapes
  *   program drip TAPE       writes a tape to a pipe byte by byte, each when the one before has been read
@@ -88,7 +89,8 @@ static void begin_kind(const char *name)
     number = 0;
 }
 
-/* Keeps a tape and its reply. `wanted` is the reply or how it begins, where it is known; an empty reply is none of hubplan's. */
+/* Keeps a tape and its reply. `wanted` is the reply or how it begins, where it is known; an empty reply is none of
+ * hubplan's. */
 static void make(const struct tape *t, const char *wanted)
 {
     static uint8_t space[HUB_SPACE_BYTES];
@@ -314,7 +316,8 @@ static void all_day(void)
     all_day_edges();
 }
 
-/* Windows that touch, P7, P11 and a run: "`hubplan` uses 0" as the gap, and with 1 the second row would be on receiver 2. */
+/* Windows that touch, P7, P11 and a run: "`hubplan` uses 0" as the gap, and with 1 the second row would be on
+ * receiver 2. */
 static void gaps(void)
 {
     static const unsigned commands[2] = {WINDOW, WINDOW}, p7[2][2] = {{8, 2}, {2, 8}};
@@ -329,7 +332,8 @@ static void gaps(void)
     make_stopped(t, "heard 2\n0 1\n1 1\n");
 }
 
-/* The replies of the planner's refusals, with the nearest tapes that are taken. A tape has no mark above 5, so 7 cannot come. */
+/* The replies of the planner's refusals, with the nearest tapes that are taken. A tape has no mark above 5, so 7
+ * cannot come. */
 static void refused(void)
 {
     begin_kind("refusal");
@@ -364,7 +368,8 @@ static unsigned below(unsigned limit)
     return (unsigned)(state >> 33) % limit;
 }
 
-/* A tape of the form. Most are of tables that are taken: an end at R in a round, or at the start in a run, is rare. In a round some rows send all day. */
+/* A tape of the form. Most are of tables that are taken: an end at R in a round, or at the start in a run, is rare.
+ * In a round some rows send all day. */
 static struct tape random_tape(void)
 {
     unsigned ticks = 2 + below(below(2) ? 40 : 2000), run = below(2), rows = below(65), musts = below(3), all_day = 2 + below(30);

@@ -40,7 +40,8 @@ static unsigned given_back; /* the refusal that the call gave, or the length of 
 void nothing(void);
 __asm__(".text\nnothing: ret\n");
 
-/* Where a context begins. What changing contexts writes lies above the bytes that it keeps free, and so above every call that is measured. */
+/* Where a context begins. What changing contexts writes lies above the bytes that it keeps free, and so above every
+ * call that is measured. */
 static void enter(void)
 {
     volatile uint8_t free_bytes[512];
@@ -49,7 +50,8 @@ static void enter(void)
     (void)free_bytes[0];
 }
 
-/* The callers: each calls what `callee` is, the function of the library or `nothing`, as the function of the library. */
+/* The callers: each calls what `callee` is, the function of the library or `nothing`, as the function of the
+ * library. */
 #define CALLED(function) ((__typeof__(&function))callee)
 #define LIST(name) now.name, now.rows
 #define PLACED(name) now.name, now.places
@@ -158,7 +160,8 @@ static unsigned below(unsigned n)
     return (unsigned)(drawn >> 32) % n;
 }
 
-/* How many bytes of the stack are written from its end on, in whole words. A word that a call writes can be the pattern by chance, so the pattern differs from call to call. */
+/* How many bytes of the stack are written from its end on, in whole words. A word that a call writes can be the
+ * pattern by chance, so the pattern differs from call to call. */
 static size_t depth_of(void (*call)(void), void (*function)(void))
 {
     static uint64_t pattern;
@@ -229,7 +232,8 @@ static void make_fleet(bool run)
     now.fleet_length = n;
 }
 
-/* The labels of the plan, their words and the plan tape; where the table is refused the labels stay as they are, and there is no tape. */
+/* The labels of the plan, their words and the plan tape; where the table is refused the labels stay as they are, and
+ * there is no tape. */
 static void make_plan(bool run)
 {
     struct hub_answer answer;
@@ -356,7 +360,8 @@ static uint8_t mark_at(enum marking marking, size_t i)
     return (uint8_t)(marking == IN_TURN ? i % 6 : marking == HALF_MUST ? i % 2 : marking == ALL_MUST);
 }
 
-/* Rows of one length, each so many ticks after the one before; a length of 0 is all day, and so is that of every other row where `mixed`. */
+/* Rows of one length, each so many ticks after the one before; a length of 0 is all day, and so is that of every
+ * other row where `mixed`. */
 static void set_table(unsigned gap, size_t rows, unsigned step, unsigned length, bool mixed, enum marking marking)
 {
     set_numbers(43200, gap, rows, marking == IN_TURN);
@@ -428,7 +433,8 @@ static void measure_refused(void)
     memset(now.labels, 1, sizeof now.labels);
     measure(WRITE_ROUND);
     measure(WRITE_RUN);
-    /* 8: rows that must be heard all day, of which two can be; the third is added and taken out again, and of four one withdrawn and put back */
+    /* 8: rows that must be heard all day, of which two can be; the third is added and taken out again, and of four
+     * one withdrawn and put back */
     set_table(0, 3, 600, 0, false, ALL_MUST);
     measure_all();
     set_table(0, 4, 600, 0, false, ALL_MUST);

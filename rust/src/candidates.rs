@@ -1,16 +1,19 @@
-//! Candidate windows tried against a table: `try_rows` takes candidates as rows and gives an answer to each; `try_lists` takes them as they are lent to the library.
+//! Candidate windows tried against a table: `try_rows` takes candidates as rows and gives an answer to each;
+//! `try_lists` takes them as they are lent to the library.
 
 use crate::held::Row;
 use crate::{c, Kind, Refusal, MAX_CANDIDATES};
 
-/// What a call reports: the refusal, if there is one, and how many rows were looked at, of the table and of the candidates. A refused call can have looked at rows, too.
+/// What a call reports: the refusal, if there is one, and how many rows were looked at, of the table and of the
+/// candidates. A refused call can have looked at rows, too.
 #[derive(Clone, Copy, Debug, PartialEq, Eq)]
 pub struct Tried {
     pub refusal: Option<Refusal>,
     pub rows: usize,
 }
 
-/// What a candidate is answered: how many rows the best plan of the table with it hears, the candidate included, or what planning that table is refused with.
+/// What a candidate is answered: how many rows the best plan of the table with it hears, the candidate included, or
+/// what planning that table is refused with.
 pub type Answer = Result<u8, Refusal>;
 
 /// Candidates as they are lent, one at each place of the three lists.
@@ -21,13 +24,16 @@ pub struct Candidates<'a> {
     pub marks: &'a [u8],
 }
 
-/// Tries each candidate alone: what planning the table with it as its last row gives, where it must be heard (marks 0, 2 and 4 count as 1, 3 and 5). Its number goes to
-/// `numbers`, 0 where there is a plan, and how many rows the plan hears to `counts`, 0 where there is none. The rows looked at are those of the table and the candidates. Beside
-/// a table of 64 rows the candidates go unread: each is given 2 and 0, and the rows looked at are 64.
+/// Tries each candidate alone: what planning the table with it as its last row gives, where it must be heard (marks 0,
+/// 2 and 4 count as 1, 3 and 5). Its number goes to `numbers`, 0 where there is a plan, and how many rows the plan
+/// hears to `counts`, 0 where there is none. The rows looked at are those of the table and the candidates. Beside a
+/// table of 64 rows the candidates go unread: each is given 2 and 0, and the rows looked at are 64.
 ///
-/// The first refusal that applies, of `Lists`, `Rows`, `Space`, `Candidates` (the five lists of candidates and answers differ in length or are longer than `MAX_CANDIDATES`),
-/// `Ticks`, `Hours`, `Gap`, `Window` and `Mark` of the table's rows and `NoPlan` of the table alone, leaves both lists of answers. The rows looked at are then k + 1 where the
-/// table stops at row k, all of the table's with `NoPlan`, and 0 with those before. The working space fares as in `crate::plan`.
+/// The first refusal that applies, of `Lists`, `Rows`, `Space`, `Candidates` (the five lists of candidates and answers
+/// differ in length or are longer than `MAX_CANDIDATES`), `Ticks`, `Hours`, `Gap`, `Window` and `Mark` of the table's
+/// rows and `NoPlan` of the table alone, leaves both lists of answers. The rows looked at are then k + 1 where the
+/// table stops at row k, all of the table's with `NoPlan`, and 0 with those before. The working space fares as in
+/// `crate::plan`.
 pub fn try_lists(
     kind: Kind,
     ticks: u16,
@@ -106,7 +112,8 @@ fn refusal(number: u8) -> Option<Refusal> {
 /// A place more than candidates have, so that too many are still too many where the rest is left out.
 const PLACES: usize = MAX_CANDIDATES + 1;
 
-/// `try_lists` for candidates as rows, with an answer to each: `answers` has a place for each candidate, else `Candidates`. A refusal leaves the answers.
+/// `try_lists` for candidates as rows, with an answer to each: `answers` has a place for each candidate, else
+/// `Candidates`. A refusal leaves the answers.
 pub fn try_rows(
     kind: Kind,
     ticks: u16,

@@ -1,4 +1,5 @@
-//! How far a tick lies after another on a circle, worked out in two ways, so that the hand ports can be measured with each (request 6 of paper 02).
+//! How far a tick lies after another on a circle, worked out in two ways, so that the hand ports can be measured with
+//! each.
 
 pub trait Distance {
     /// From a tick on to another, both below `circle`; of other numbers, if `circle` is not 0, any number.
@@ -19,7 +20,7 @@ impl Distance for Sums {
     }
 }
 
-/// "the tick plus R less the start, modulo R" as it stands: a sum that needs 17 bits, and its remainder.
+/// The tick and R less the start, modulo R: a sum that needs 17 bits, and its remainder.
 pub enum Remainder {}
 
 impl Distance for Remainder {

@@ -1,10 +1,11 @@
-//! The old planner: windows in table order, each placed on the first receiver that is free and that its mark allows. It can hear too few rows, and miss a plan that exists.
-//! It keeps the gap, which the old program did not know, so that what it gives is a plan.
+//! The plainest planner: windows in table order, each placed on the first receiver that is free and that its mark
+//! allows. What it gives is a plan; it can hear too few rows, and miss a plan that exists.
 
 use crate::port::allows;
 use crate::{Kind, Refusal};
 
-/// Whether a window with the gap after it covers a tick. A window that ends at its start is `ticks` long; in a run the gap after the last tick does not come back to the first.
+/// Whether a window with the gap after it covers a tick. A window that ends at its start is `ticks` long; in a run the
+/// gap after the last tick does not come back to the first.
 pub fn reaches(kind: Kind, ticks: u16, gap: u16, [start, end]: [u16; 2], tick: u16) -> bool {
     let (ticks, gap, start, end, tick) = (ticks as u32, gap as u32, start as u32, end as u32, tick as u32);
     let circle = if kind == Kind::Round { ticks } else { ticks + gap };
@@ -13,7 +14,15 @@ pub fn reaches(kind: Kind, ticks: u16, gap: u16, [start, end]: [u16; 2], tick: u
 
 /// Plans a table that passes its checks.
 #[inline(never)]
-pub fn plan(kind: Kind, ticks: u16, gap: u16, starts: &[u16], ends: &[u16], marks: &[u8], labels: &mut [u8]) -> Result<usize, Refusal> {
+pub fn plan(
+    kind: Kind,
+    ticks: u16,
+    gap: u16,
+    starts: &[u16],
+    ends: &[u16],
+    marks: &[u8],
+    labels: &mut [u8],
+) -> Result<usize, Refusal> {
     let mut count = 0;
     labels.fill(0);
     for i in 0..starts.len() {
@@ -23,7 +32,9 @@ pub fn plan(kind: Kind, ticks: u16, gap: u16, starts: &[u16], ends: &[u16], mark
             Kind::Round => true,
             Kind::Run(hours) => hours[receiver][0] <= starts[i] && ends[i] <= hours[receiver][1],
         };
-        let free = |label: u8| allows(marks[i], label) && open(label as usize - 1) && !(0..i).any(|j| labels[j] == label && too_close(j));
+        let free = |label: u8| {
+            allows(marks[i], label) && open(label as usize - 1) && !(0..i).any(|j| labels[j] == label && too_close(j))
+        };
         let label = if free(1) {
             1
         } else if free(2) {

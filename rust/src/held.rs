@@ -1,4 +1,5 @@
-//! A held table with its plan: `HeldTable` has its numbers and lists; `add` and `withdraw` take them as they are lent to the library.
+//! A held table with its plan: `HeldTable` has its numbers and lists; `add` and `withdraw` take them as they are lent
+//! to the library.
 
 use crate::{c, Refusal, MAX_ROWS};
 
@@ -20,7 +21,8 @@ pub struct Row {
     pub mark: u8,
 }
 
-/// The numbers of an empty table of a round; with a refusal, `Ticks` or `Gap`, those of an empty table of R 2 and gap 0.
+/// The numbers of an empty table of a round; with a refusal, `Ticks` or `Gap`, those of an empty table of R 2 and gap
+/// 0.
 pub fn begin(ticks: u16, gap: u16) -> (Numbers, Result<(), Refusal>) {
     // SAFETY: nothing is lent.
     let begun = unsafe { c::hub_held_begin(ticks, gap) };
@@ -39,7 +41,8 @@ fn changed(numbers: &mut Numbers, change: c::HubHeldChange) -> Result<usize, Ref
     })
 }
 
-/// Adds a row to a held table in four lists of `MAX_ROWS` places, else `Lists`: `HeldTable::add`. What numbers and lists that came from no call get, include/hubplan.h says.
+/// Adds a row to a held table in four lists of `MAX_ROWS` places, else `Lists`: `HeldTable::add`. What numbers and
+/// lists that came from no call get, include/hubplan.h says.
 pub fn add(
     numbers: &mut Numbers,
     starts: &mut [u16],
@@ -71,7 +74,8 @@ pub fn add(
     changed(numbers, change)
 }
 
-/// Withdraws row `row` of a held table in four lists of `MAX_ROWS` places, else `Lists`: `HeldTable::withdraw`. For other numbers and lists as `add`.
+/// Withdraws row `row` of a held table in four lists of `MAX_ROWS` places, else `Lists`: `HeldTable::withdraw`. For
+/// other numbers and lists as `add`.
 pub fn withdraw(
     numbers: &mut Numbers,
     starts: &mut [u16],
@@ -101,7 +105,8 @@ pub fn withdraw(
     changed(numbers, change)
 }
 
-/// A table of a round with the plan that `crate::plan` gives for it, changed a row at a time. It came from these calls, so all that is promised of held tables holds.
+/// A table of a round with the plan that `crate::plan` gives for it, changed a row at a time. It came from these calls,
+/// so all that is promised of held tables holds.
 #[derive(Clone, Debug)]
 pub struct HeldTable {
     numbers: Numbers,
@@ -125,8 +130,9 @@ impl HeldTable {
         (table, begun)
     }
 
-    /// Adds a row after the last one, plans the whole table and gives the count; labels of other rows can change. A refusal, of `Rows`, `Space`, `Window`, `Mark` and `NoPlan`
-    /// the first that applies, changes neither table nor plan. The working space fares as in `crate::plan`.
+    /// Adds a row after the last one, plans the whole table and gives the count; labels of other rows can change. A
+    /// refusal, of `Rows`, `Space`, `Window`, `Mark` and `NoPlan` the first that applies, changes neither table nor
+    /// plan. The working space fares as in `crate::plan`.
     pub fn add(&mut self, row: Row, space: &mut [u8]) -> Result<usize, Refusal> {
         add(
             &mut self.numbers,
@@ -139,8 +145,9 @@ impl HeldTable {
         )
     }
 
-    /// Withdraws a row by its number, so that later rows move up one, plans the whole table and gives the count; labels of other rows can change. A refusal, `Space` or then
-    /// `NoRow`, changes neither table nor plan; it is never `NoPlan`. The working space fares as in `crate::plan`.
+    /// Withdraws a row by its number, so that later rows move up one, plans the whole table and gives the count; labels
+    /// of other rows can change. A refusal, `Space` or then `NoRow`, changes neither table nor plan; it is never
+    /// `NoPlan`. The working space fares as in `crate::plan`.
     pub fn withdraw(&mut self, row: usize, space: &mut [u8]) -> Result<usize, Refusal> {
         withdraw(
             &mut self.numbers,

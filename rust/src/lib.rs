@@ -1,14 +1,15 @@
 //! The proved hub planner for Rust: safe functions over the C interface of the crate `hub_c`.
 //!
-//! What each function promises is proved of the function that it calls (crates/hub_c). Here only slices are taken apart into
-//! addresses and lengths, and Rust's borrow rules see to it that the lists of one call do not overlap. With the feature `portable`,
-//! and on any target but x86-64 Linux, the functions called are those of the portable crate (docs/PORTABLE.md).
+//! What each function promises is proved of the function that it calls (crates/hub_c). Here only slices are taken apart
+//! into addresses and lengths, and Rust's borrow rules see to it that the lists of one call do not overlap. With the
+//! feature `portable`, and on any target but x86-64 Linux, the functions called are those of the portable crate
+//! (docs/PORTABLE.md).
 
 pub mod candidates;
 pub mod distance;
 pub mod first_free;
-pub mod former;
 pub mod held;
+pub mod label_by_label;
 pub mod player_port;
 pub mod port;
 pub mod tables;
@@ -20,7 +21,8 @@ pub const MAX_ROWS: usize = 64;
 /// The most candidates of a call.
 pub const MAX_CANDIDATES: usize = 64;
 
-/// The shortest working space that is not refused, `Refusal::Space`, and how many of its bytes a call clears that clears any.
+/// The shortest working space that is not refused, `Refusal::Space`, and how many of its bytes a call clears that
+/// clears any.
 pub const SPACE_BYTES: usize = 4_608;
 
 /// The longest plan tape: 8 bytes and 6 for each of 64 rows.
@@ -35,7 +37,8 @@ pub const REPLY_BYTES: usize = 400;
 /// The longest gap that a receiver can need between two windows, in ticks.
 pub const MAX_GAP: u16 = 600;
 
-/// The marks of a row: whether it may or must be heard, and by which receivers. A mark above 5 is refused, `Refusal::Mark`.
+/// The marks of a row: whether it may or must be heard, and by which receivers. A mark above 5 is refused,
+/// `Refusal::Mark`.
 pub mod mark {
     /// May be heard, by either receiver.
     pub const MAY: u8 = 0;
@@ -51,7 +54,7 @@ pub mod mark {
     pub const MUST_2: u8 = 5;
 }
 
-/// Why a call is refused; the values are the numbers of papers 01 and 02.
+/// Why a call is refused; the values are the numbers of the refusals (docs/RULES.md, Refusals).
 #[derive(Clone, Copy, Debug, PartialEq, Eq)]
 #[repr(u8)]
 pub enum Refusal {
@@ -126,14 +129,16 @@ impl Player {
     pub const FINISHED: Player = Player { tick: u16::MAX };
 }
 
-/// What a receiver does at a tick; `until` is the window's end as taped, also at the end itself where the window covers every tick.
+/// What a receiver does at a tick; `until` is the window's end as taped, also at the end itself where the window covers
+/// every tick.
 #[derive(Clone, Copy, Debug, PartialEq, Eq)]
 pub enum Receiver {
     Idle,
     Listening { row: u8, until: u16 },
 }
 
-/// What a step gives: what receivers 1 and 2 do at its tick, `None` where the player is finished, and the player of the next step.
+/// What a step gives: what receivers 1 and 2 do at its tick, `None` where the player is finished, and the player of the
+/// next step.
 #[derive(Clone, Copy, Debug, PartialEq, Eq)]
 pub struct Stepped {
     pub receivers: Option<[Receiver; 2]>,
@@ -296,7 +301,14 @@ pub mod c {
             marks: *mut u8,
             marks_length: usize,
         ) -> HubReport;
-        pub fn hub_reply(tape: *const u8, tape_length: usize, out: *mut u8, out_length: usize, space: *mut u8, space_length: usize) -> usize;
+        pub fn hub_reply(
+            tape: *const u8,
+            tape_length: usize,
+            out: *mut u8,
+            out_length: usize,
+            space: *mut u8,
+            space_length: usize,
+        ) -> usize;
         pub fn hub_player_start(tape: *const u8, tape_length: usize, first: u16) -> HubStarted;
         pub fn hub_player_step(tape: *const u8, tape_length: usize, player: HubPlayer) -> HubStepped;
         pub fn hub_held_begin(ticks: u16, gap: u16) -> HubHeldBegun;
@@ -411,15 +423,18 @@ fn answer(reported: c::HubAnswer) -> Result<usize, Refusal> {
     }
 }
 
-/// Plans a table, a row at each place of starts, ends and marks (0 to 5, see `mark`): the plan with the most heard rows, of those the first in paper 01's order. Gives the
-/// count, fills the labels and clears the first `SPACE_BYTES` of the working space, and leaves the bytes beyond; a refusal leaves labels and working space, except that `NoPlan`
-/// clears the same part.
+/// Plans a table, a row at each place of starts, ends and marks (0 to 5, see `mark`): the plan with the most heard
+/// rows, of those the one whose labels come first, in the order 1, 2, 0 for each row from row 0 on. Gives the count,
+/// fills the labels and clears the first `SPACE_BYTES` of the working space, and leaves the bytes beyond; a refusal
+/// leaves labels and working space, except that `NoPlan` clears the same part.
 ///
-/// In a round a window covers the ticks from its start on, after the last tick from 0 on, up to the tick before its end; start equal to end covers every tick and overlaps
-/// every window. Both are below `ticks`, else `Window`. In a run a window covers its start to the tick before its end; the start is below the end and the end at most `ticks`.
+/// In a round a window covers the ticks from its start on, after the last tick from 0 on, up to the tick before its
+/// end; start equal to end covers every tick and overlaps every window. Both are below `ticks`, else `Window`. In a run
+/// a window covers its start to the tick before its end; the start is below the end and the end at most `ticks`.
 ///
-/// A receiver needs `gap` ticks between two different windows: in a plan no two of its rows overlap or have fewer between them, in a round on either side; windows that touch
-/// have 0. In a run no gap is counted from the last window on to the first. More than `MAX_GAP` is refused, `Gap`.
+/// A receiver needs `gap` ticks between two different windows: in a plan no two of its rows overlap or have fewer
+/// between them, in a round on either side; windows that touch have 0. In a run no gap is counted from the last window
+/// on to the first. More than `MAX_GAP` is refused, `Gap`.
 pub fn plan(
     kind: Kind,
     ticks: u16,
@@ -430,7 +445,8 @@ pub fn plan(
     labels: &mut [u8],
     space: &mut [u8],
 ) -> Result<usize, Refusal> {
-    // SAFETY: each address comes with its slice's length, and the borrow rules keep the written slices apart from all others.
+    // SAFETY: each address comes with its slice's length, and the borrow rules keep the written slices apart from all
+    // others.
     answer(unsafe {
         match kind {
             Kind::Round => c::hub_plan_round(
@@ -469,8 +485,9 @@ pub fn plan(
     })
 }
 
-/// Writes the plan tape of a table and labels to the front of `tape` and gives its length; a refusal leaves `tape` as it was. Labels that leave out a must row, use a receiver
-/// that a row's mark excludes or break the gap are no plan, `NotPlan`.
+/// Writes the plan tape of a table and labels to the front of `tape` and gives its length; a refusal leaves `tape` as
+/// it was. Labels that leave out a must row, use a receiver that a row's mark excludes or break the gap are no plan,
+/// `NotPlan`.
 pub fn write_plan(
     kind: Kind,
     ticks: u16,
@@ -520,8 +537,8 @@ pub fn write_plan(
     })
 }
 
-/// Reads a fleet tape into lists of 64 places: fills them for the rows present, whose commands 40 to 45 hexadecimal give marks 0 to 5, leaves the other places, and on a
-/// refusal all.
+/// Reads a fleet tape into lists of 64 places: fills them for the rows present, whose commands 40 to 45 hexadecimal
+/// give marks 0 to 5, leaves the other places, and on a refusal all.
 pub fn read_fleet(tape: &[u8], starts: &mut [u16], ends: &mut [u16], marks: &mut [u8]) -> Result<Fleet, Refusal> {
     // SAFETY: as in `plan`.
     let report = unsafe {
@@ -551,22 +568,35 @@ pub fn read_fleet(tape: &[u8], starts: &mut [u16], ends: &mut [u16], marks: &mut
     })
 }
 
-/// Writes to the front of `out` what `hubplan` prints for a fleet tape, with a gap of 0, and gives that text; nothing where `out` is shorter than `REPLY_BYTES`. The working
-/// space fares as in `plan`, and is left where nothing is planned.
+/// Writes to the front of `out` what `hubplan` prints for a fleet tape, with a gap of 0, and gives that text; nothing
+/// where `out` is shorter than `REPLY_BYTES`. The working space fares as in `plan`, and is left where nothing is
+/// planned.
 pub fn reply<'a>(tape: &[u8], out: &'a mut [u8], space: &mut [u8]) -> &'a [u8] {
     // SAFETY: as in `plan`.
-    let length = unsafe { c::hub_reply(tape.as_ptr(), tape.len(), out.as_mut_ptr(), out.len(), space.as_mut_ptr(), space.len()) };
+    let length = unsafe {
+        c::hub_reply(
+            tape.as_ptr(),
+            tape.len(),
+            out.as_mut_ptr(),
+            out.len(),
+            space.as_mut_ptr(),
+            space.len(),
+        )
+    };
     &out[..length]
 }
 
-/// Starts a player on a plan tape, at the tick `first`. Taken are exactly the tapes that `write_plan` can write for some table and labels with a gap of 0 (of a run, with
-/// hours 0 to ticks), so all that it writes with any gap, else `Tape`; then `FirstTick` where `first` is not below the tape's ticks. The library gives a finished player with a
+/// Starts a player on a plan tape, at the tick `first`. Taken are exactly the tapes that `write_plan` can write for
+/// some table and labels with a gap of 0 (of a run, with hours 0 to ticks), so all that it writes with any gap, else
+/// `Tape`; then `FirstTick` where `first` is not below the tape's ticks. The library gives a finished player with a
 /// refusal, which is `Player::FINISHED`.
 pub fn start(tape: &[u8], first: u16) -> Result<Player, Refusal> {
     // SAFETY: the address comes with its slice's length, and nothing is written.
     let started = unsafe { c::hub_player_start(tape.as_ptr(), tape.len(), first) };
     match started.refusal {
-        0 => Ok(Player { tick: started.player.tick }),
+        0 => Ok(Player {
+            tick: started.player.tick,
+        }),
         number => Err(Refusal::of_number(number)),
     }
 }
@@ -582,14 +612,17 @@ fn receiver(told: c::HubReceiver) -> Receiver {
     }
 }
 
-/// A step of a player: tells what each receiver does at the player's tick and moves on by one tick, from the last to 0 in a round. A finished player stays as it is. The
-/// steps of a player follow the tape on which it was started; on any other bytes, and with any player, a step does what include/hubplan.h says.
+/// A step of a player: tells what each receiver does at the player's tick and moves on by one tick, from the last to 0
+/// in a round. A finished player stays as it is. The steps of a player follow the tape on which it was started; on any
+/// other bytes, and with any player, a step does what include/hubplan.h says.
 pub fn step(tape: &[u8], player: Player) -> Stepped {
     // SAFETY: as in `start`.
     let stepped = unsafe { c::hub_player_step(tape.as_ptr(), tape.len(), c::HubPlayer { tick: player.tick }) };
     let receivers = (!stepped.finished).then(|| [receiver(stepped.receiver1), receiver(stepped.receiver2)]);
     Stepped {
         receivers,
-        player: Player { tick: stepped.player.tick },
+        player: Player {
+            tick: stepped.player.tick,
+        },
     }
 }

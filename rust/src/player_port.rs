@@ -1,5 +1,6 @@
-//! The player's step once more, by hand in plain Rust and unproved: what the proved step's time is measured against. It is the same walk, once over the tape; the start is
-//! the plain one of a program that need not be proved, with one pass where the proved start compares each LISTEN with all others.
+//! The player's step once more, by hand in plain Rust and unproved: what the proved step's time is measured against. It
+//! is the same walk, once over the tape; the start is the plain one of a program that need not be proved, with one pass
+//! where the proved start compares each LISTEN with all others.
 
 use crate::distance::{Distance, Sums};
 use crate::{Player, Receiver, Refusal, Stepped};
@@ -13,7 +14,9 @@ struct Listen {
 /// Whether the tape is of a run, its ticks, and the bytes after them.
 fn head(tape: &[u8]) -> Option<(bool, u16, &[u8])> {
     match tape {
-        [command @ (0x10 | 0x11), high, low, rest @ ..] => Some((*command == 0x11, u16::from_be_bytes([*high, *low]), rest)),
+        [command @ (0x10 | 0x11), high, low, rest @ ..] => {
+            Some((*command == 0x11, u16::from_be_bytes([*high, *low]), rest))
+        }
         _ => None,
     }
 }
@@ -35,9 +38,14 @@ fn is_window(run: bool, ticks: u16, start: u16, end: u16) -> bool {
     }
 }
 
-/// Whether a window covers a tick, if it breaks no rule; one that ends at its start covers every tick. A run's can end at R, which is no tick.
+/// Whether a window covers a tick, if it breaks no rule; one that ends at its start covers every tick. A run's can end
+/// at R, which is no tick.
 fn covers<D: Distance>(run: bool, ticks: u16, start: u16, end: u16, tick: u16) -> bool {
-    let length = if run { end.wrapping_sub(start) } else { D::between(ticks, start, end) };
+    let length = if run {
+        end.wrapping_sub(start)
+    } else {
+        D::between(ticks, start, end)
+    };
     start == end || D::between(ticks, start, tick) < length
 }
 
@@ -65,7 +73,10 @@ pub fn step(tape: &[u8], player: Player) -> Stepped {
 #[inline(never)]
 pub fn step_by<D: Distance>(tape: &[u8], player: Player) -> Stepped {
     let Some((run, ticks, rest)) = head(tape).filter(|&(_, ticks, _)| player.tick < ticks) else {
-        return Stepped { receivers: None, player };
+        return Stepped {
+            receivers: None,
+            player,
+        };
     };
     let (receiver1, rest) = told::<D>(run, ticks, player.tick, rest);
     let (receiver2, _) = told::<D>(run, ticks, player.tick, rest);
@@ -77,8 +88,9 @@ pub fn step_by<D: Distance>(tape: &[u8], player: Player) -> Stepped {
     }
 }
 
-/// The bytes after the part of a receiver, if the writer can write it beside the rows that are taken. Starts rise, so a window that meets another meets the next one, or it
-/// is the last, goes over the end of the day and meets the first. A window that ends at or before its start leaves no tick for a next one.
+/// The bytes after the part of a receiver, if the writer can write it beside the rows that are taken. Starts rise, so a
+/// window that meets another meets the next one, or it is the last, goes over the end of the day and meets the first. A
+/// window that ends at or before its start leaves no tick for a next one.
 fn after_part<'a>(run: bool, ticks: u16, number: u8, bytes: &'a [u8], rows: &mut u64) -> Option<&'a [u8]> {
     let [0x20, stands, rest @ ..] = bytes else {
         return None;

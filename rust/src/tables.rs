@@ -1,6 +1,6 @@
 //! Tables of windows from fixed pseudo-random sequences, for the benchmark and the tests.
 
-use crate::{former, Kind, Refusal, SPACE_BYTES};
+use crate::{label_by_label, Kind, Refusal, SPACE_BYTES};
 
 /// SplitMix64: the same numbers on every machine.
 pub struct Sequence(u64);
@@ -73,14 +73,33 @@ impl Table {
     }
 
     pub fn plan(&self, planner: Planner, labels: &mut [u8], space: &mut [u8]) -> Result<usize, Refusal> {
-        planner(self.kind, self.ticks, self.gap, &self.starts, &self.ends, &self.marks, labels, space)
+        planner(
+            self.kind,
+            self.ticks,
+            self.gap,
+            &self.starts,
+            &self.ends,
+            &self.marks,
+            labels,
+            space,
+        )
     }
 
     pub fn write_plan(&self, labels: &[u8], tape: &mut [u8]) -> Result<usize, Refusal> {
-        crate::write_plan(self.kind, self.ticks, self.gap, &self.starts, &self.ends, &self.marks, labels, tape)
+        crate::write_plan(
+            self.kind,
+            self.ticks,
+            self.gap,
+            &self.starts,
+            &self.ends,
+            &self.marks,
+            labels,
+            tape,
+        )
     }
 
-    /// A row that starts at a tick, which in a round may be past the end of the day, and is so many ticks long, up to R.
+    /// A row that starts at a tick, which in a round may be past the end of the day, and is so many ticks long, up to
+    /// R.
     fn push_arc(&mut self, start: u32, length: u32) {
         let ticks = self.ticks as u32;
         let (start, end) = match self.kind {
@@ -126,8 +145,8 @@ impl Table {
     }
 }
 
-/// Windows over the whole day that start at scattered ticks; each ends between the start of the `low`th and the `high`th window after it, so that from `low` to `high`
-/// windows lie over every tick.
+/// Windows over the whole day that start at scattered ticks; each ends between the start of the `low`th and the
+/// `high`th window after it, so that from `low` to `high` windows lie over every tick.
 pub fn deep(rows: u32, low: u32, high: u32, seed: u64) -> Table {
     let mut sequence = Sequence::new(seed);
     let step = DAY / rows;
@@ -179,7 +198,8 @@ pub fn all_day(rows: u32, seed: u64) -> Table {
     table
 }
 
-/// A run in which receiver 1 is open for the first two thirds and receiver 2 for the last three quarters; windows about three deep.
+/// A run in which receiver 1 is open for the first two thirds and receiver 2 for the last three quarters; windows about
+/// three deep.
 pub fn uneven_run(rows: u32, seed: u64) -> Table {
     let mut sequence = Sequence::new(seed);
     let hours = [[0, 28_800], [10_800, DAY as u16]];
@@ -188,7 +208,9 @@ pub fn uneven_run(rows: u32, seed: u64) -> Table {
     for i in 0..rows {
         let start = (i * step + sequence.within(0, step - 1)).min(DAY - 1);
         table.starts.push(start as u16);
-        table.ends.push((start + sequence.within(step, 5 * step)).min(DAY) as u16);
+        table
+            .ends
+            .push((start + sequence.within(step, 5 * step)).min(DAY) as u16);
         table.marks.push(0);
     }
     table.shuffle(&mut sequence);
@@ -209,8 +231,8 @@ pub fn all_marks(rows: u32, seed: u64) -> Table {
     table
 }
 
-/// Rows 0 to 31 are windows of 100 to 5,400 ticks, seven or eight deep in the stretch where they lie (so many and so short, they cannot be that deep all day); rows 32 to
-/// 63 are arcs longer than 38,000 ticks; all marks 0.
+/// Rows 0 to 31 are windows of 100 to 5,400 ticks, seven or eight deep in the stretch where they lie (so many and so
+/// short, they cannot be that deep all day); rows 32 to 63 are arcs longer than 38,000 ticks; all marks 0.
 pub fn long_arcs(seed: u64) -> Table {
     let mut sequence = Sequence::new(seed);
     let mut table = Table::empty(Kind::Round, DAY as u16);
@@ -225,7 +247,8 @@ pub fn long_arcs(seed: u64) -> Table {
     table
 }
 
-/// 64 windows over the whole day, and labels that give them to receivers 1 and 2 in turn: a window of 600 to 1,350 ticks at every 675th tick.
+/// 64 windows over the whole day, and labels that give them to receivers 1 and 2 in turn: a window of 600 to 1,350
+/// ticks at every 675th tick.
 pub fn in_turn(seed: u64) -> (Table, Vec<u8>) {
     let mut sequence = Sequence::new(seed);
     let mut table = Table::empty(Kind::Round, DAY as u16);
@@ -244,7 +267,8 @@ pub fn equal(rows: u32, start: u32) -> Table {
     table
 }
 
-/// Rows each of which lies within the one before it, in a pseudo-random order; the longest leaves a stretch of the day free.
+/// Rows each of which lies within the one before it, in a pseudo-random order; the longest leaves a stretch of the day
+/// free.
 pub fn nested(rows: u32, seed: u64) -> Table {
     let mut sequence = Sequence::new(seed);
     let mut table = Table::empty(Kind::Round, DAY as u16);
@@ -272,11 +296,11 @@ pub fn disjoint(rows: u32, seed: u64) -> Table {
     table
 }
 
-/// A table that has a plan, with every second row that is heard in it marked must, which leaves the plan as it is. It is planned by the former port, so that a count of the
-/// planner's or the port's instructions has no plan more in it.
+/// A table that has a plan, with every second row that is heard in it marked must, which leaves the plan as it is. It
+/// is planned label by label, so that a count of the planner's or the port's instructions has no plan more in it.
 pub fn half_heard_must(mut table: Table) -> Table {
     let mut labels = vec![0; table.rows()];
-    let planned = table.plan(former::plan, &mut labels, &mut vec![0; SPACE_BYTES]);
+    let planned = table.plan(label_by_label::plan, &mut labels, &mut vec![0; SPACE_BYTES]);
     planned.expect("a table that has a plan");
     let heard = (0..table.rows()).filter(|&i| labels[i] > 0);
     for i in heard.step_by(2) {
@@ -302,7 +326,8 @@ pub fn random_hours(sequence: &mut Sequence, ticks: u32) -> [[u16; 2]; 2] {
     })
 }
 
-/// What a row of a mixture can be: a short window, a long arc, a window of a row before it once more, one within that of a row before it, or one that sends all day.
+/// What a row of a mixture can be: a short window, a long arc, a window of a row before it once more, one within that
+/// of a row before it, or one that sends all day.
 #[derive(Clone, Copy)]
 enum Shape {
     Short,
@@ -322,7 +347,11 @@ fn random_shapes(sequence: &mut Sequence) -> Vec<Shape> {
         (Shape::Nested, 4),
         (Shape::AllDay, 2),
     ] {
-        let times = if sequence.one_in(2) { 0 } else { sequence.within(1, most) };
+        let times = if sequence.one_in(2) {
+            0
+        } else {
+            sequence.within(1, most)
+        };
         shapes.extend(vec![shape; times as usize]);
     }
     if shapes.is_empty() {
@@ -331,7 +360,8 @@ fn random_shapes(sequence: &mut Sequence) -> Vec<Shape> {
     shapes
 }
 
-/// Start and length of a row of a mixture; `before` has those of the rows before it. Where there are none, a row that rests on one is a long arc.
+/// Start and length of a row of a mixture; `before` has those of the rows before it. Where there are none, a row that
+/// rests on one is a long arc.
 fn random_arc(sequence: &mut Sequence, table: &Table, shape: Shape, before: &[(u32, u32)]) -> (u32, u32) {
     let (round, ticks) = (table.kind == Kind::Round, table.ticks as u32);
     let (low, high) = match shape {
@@ -348,10 +378,14 @@ fn random_arc(sequence: &mut Sequence, table: &Table, shape: Shape, before: &[(u
         _ => (ticks / 8, ticks - 1),
     };
     let length = sequence.within(low, high);
-    (sequence.within(0, if round { ticks - 1 } else { ticks - length }), length)
+    (
+        sequence.within(0, if round { ticks - 1 } else { ticks - length }),
+        length,
+    )
 }
 
-/// So many rows of random shapes in a round or a run, with any marks, of which few are must, and in one table of two with a gap.
+/// So many rows of random shapes in a round or a run, with any marks, of which few are must, and in one table of two
+/// with a gap.
 pub fn mixture(sequence: &mut Sequence, rows: usize) -> Table {
     let ticks = [60, 1_440, DAY, DAY][sequence.within(0, 3) as usize];
     let kind = if sequence.one_in(4) {
@@ -359,7 +393,11 @@ pub fn mixture(sequence: &mut Sequence, rows: usize) -> Table {
     } else {
         Kind::Round
     };
-    let gap = if sequence.one_in(2) { 0 } else { sequence.within(1, ticks.min(600)) };
+    let gap = if sequence.one_in(2) {
+        0
+    } else {
+        sequence.within(1, ticks.min(600))
+    };
     let mut table = Table::empty(kind, ticks as u16).with_gap(gap as u16);
     let shapes = random_shapes(sequence);
     let must = [40, 200, 1_000][sequence.within(0, 2) as usize];
@@ -370,7 +408,11 @@ pub fn mixture(sequence: &mut Sequence, rows: usize) -> Table {
         let arc = random_arc(sequence, &table, shape, &arcs);
         arcs.push(arc);
         table.push_arc(arc.0, arc.1);
-        let receivers = if sequence.one_in(only) { sequence.within(0, 2) as u8 } else { 0 };
+        let receivers = if sequence.one_in(only) {
+            sequence.within(0, 2) as u8
+        } else {
+            0
+        };
         table.marks[i] = 2 * receivers + u8::from(sequence.one_in(must));
     }
     table
@@ -405,24 +447,48 @@ pub fn benchmark_tables() -> Vec<(&'static str, Table)> {
         ("nested arcs", nested(64, 16)),
         ("all rows almost all day", all_long(64, 1, 3_000, 17)),
         ("8 deep, marks 0 to 5", mixed_marks(deep(64, 7, 9, 18))),
-        ("4 to 5 deep, half of the heard must", half_heard_must(deep(64, 4, 5, 3))),
+        (
+            "4 to 5 deep, half of the heard must",
+            half_heard_must(deep(64, 4, 5, 3)),
+        ),
         ("16 deep, half of the heard must", half_heard_must(deep(64, 15, 17, 4))),
         ("disjoint windows", disjoint(64, 19)),
     ]
 }
 
-/// The benchmark's tables of 63 rows, each with 64 candidates, which are the rows of a table drawn in the same way from another sequence.
+/// The benchmark's tables of 63 rows, each with 64 candidates, which are the rows of a table drawn in the same way from
+/// another sequence.
 pub fn candidate_tables() -> Vec<(&'static str, Table, Table)> {
     vec![
         ("1 to 2 deep", deep(64, 1, 2, 1).first(63), deep(64, 1, 2, 101)),
         ("1 to 2 deep, another", deep(64, 1, 2, 9).first(63), deep(64, 1, 2, 109)),
-        ("scattered, 1.5 deep on average", scattered(64, 150, 2).first(63), scattered(64, 150, 102)),
+        (
+            "scattered, 1.5 deep on average",
+            scattered(64, 150, 2).first(63),
+            scattered(64, 150, 102),
+        ),
         ("4 to 5 deep", deep(64, 4, 5, 3).first(63), deep(64, 4, 5, 103)),
         ("5 deep", deep(64, 5, 5, 15).first(63), deep(64, 5, 5, 115)),
-        ("run with uneven hours", uneven_run(64, 6).first(63), uneven_run(64, 106)),
-        ("1 to 2 deep, marks 0 to 5 in turn", all_marks(64, 51).first(63), all_marks(64, 151)),
-        ("1 to 2 deep, gap 60", deep(64, 1, 2, 1).first(63).with_gap(60), deep(64, 1, 2, 101)),
-        ("5 deep, gap 60", deep(64, 5, 5, 15).first(63).with_gap(60), deep(64, 5, 5, 115)),
+        (
+            "run with uneven hours",
+            uneven_run(64, 6).first(63),
+            uneven_run(64, 106),
+        ),
+        (
+            "1 to 2 deep, marks 0 to 5 in turn",
+            all_marks(64, 51).first(63),
+            all_marks(64, 151),
+        ),
+        (
+            "1 to 2 deep, gap 60",
+            deep(64, 1, 2, 1).first(63).with_gap(60),
+            deep(64, 1, 2, 101),
+        ),
+        (
+            "5 deep, gap 60",
+            deep(64, 5, 5, 15).first(63).with_gap(60),
+            deep(64, 5, 5, 115),
+        ),
         (
             "run with uneven hours, gap 60",
             uneven_run(64, 6).first(63).with_gap(60),

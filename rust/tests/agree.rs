@@ -1,15 +1,22 @@
-//! The proved library against the papers' rules written down independently (tests/papers), on fixed pseudo-random inputs, valid and damaged.
+//! The library against the rules (docs/RULES.md) written down independently (tests/rules), on fixed pseudo-random
+//! inputs, valid and damaged, and on examples worked out by hand.
 
 mod candidates;
+mod fleet;
 mod held;
-mod papers;
 mod player;
+mod rules;
 mod space;
 mod words;
 
 use hubplan::distance::Remainder;
-use hubplan::tables::{benchmark_tables, deep, half_heard_must, long_arcs, mixed_marks, mixture, random_hours, Planner, Sequence, Table};
-use hubplan::{first_free, former, mark, port, Kind, Player, Refusal, FLEET_TAPE_BYTES, MAX_GAP, PLAN_TAPE_BYTES, REPLY_BYTES, SPACE_BYTES};
+use hubplan::tables::{
+    benchmark_tables, deep, half_heard_must, long_arcs, mixed_marks, mixture, random_hours, Planner, Sequence, Table,
+};
+use hubplan::{
+    first_free, label_by_label, mark, port, Kind, Player, Refusal, FLEET_TAPE_BYTES, MAX_GAP, MAX_ROWS,
+    PLAN_TAPE_BYTES, SPACE_BYTES,
+};
 
 fn numbers(answer: Result<usize, Refusal>) -> (u8, usize) {
     match answer {
@@ -31,11 +38,11 @@ fn lent_space(space: usize) -> Vec<u8> {
 /// So much working space before a call with this refusal, and after it.
 fn spaces(space: usize, refusal: u8) -> (Vec<u8>, Vec<u8>) {
     let before = lent_space(space);
-    let after = papers::space::RIGHT.after(refusal, &before);
+    let after = rules::space::RIGHT.after(refusal, &before);
     (before, after)
 }
 
-/// Plans and compares answer, labels and the whole working space with what the papers ask; gives the refusal's number.
+/// Plans and compares answer, labels and the whole working space with what the rules ask; gives the refusal's number.
 fn compare_plan(planner: Planner, table: &Table, labels: usize, space: usize, right: &(u8, usize, Vec<u8>)) -> u8 {
     let mut labels = lent_labels(labels);
     let (mut space, after) = spaces(space, right.0);
@@ -46,27 +53,37 @@ fn compare_plan(planner: Planner, table: &Table, labels: usize, space: usize, ri
     right.0
 }
 
-/// The same for the library and the hand ports, present and former.
+/// The same for the library and the hand ports.
 fn compare_plans(table: &Table, space: usize, right: &(u8, usize, Vec<u8>)) -> u8 {
-    for planner in [hubplan::plan, port::plan, port::plan_by::<Remainder>, former::plan] {
+    for planner in [
+        hubplan::plan,
+        port::plan,
+        port::plan_by::<Remainder>,
+        label_by_label::plan,
+    ] {
         compare_plan(planner, table, table.rows(), space, right);
     }
     right.0
 }
 
 /// Writes a tape into the buffer and compares answer and buffer with what the rules ask; gives the refusal's number.
-fn compare_written(rules: &papers::Rules, table: &Table, labels: &[u8], mut buffer: Vec<u8>) -> u8 {
-    let right = papers::written(rules, table, labels, &buffer);
+fn compare_written(rules: &rules::Rules, table: &Table, labels: &[u8], mut buffer: Vec<u8>) -> u8 {
+    let right = rules::written(rules, table, labels, &buffer);
     let answer = table.write_plan(labels, &mut buffer);
-    assert_eq!((numbers(answer), buffer), ((right.0, right.1), right.2), "{table:?} {labels:?}");
+    assert_eq!(
+        (numbers(answer), buffer),
+        ((right.0, right.1), right.2),
+        "{table:?} {labels:?}"
+    );
     right.0
 }
 
 fn right_plan(table: &Table, labels: usize, space: usize) -> (u8, usize, Vec<u8>) {
-    papers::planned(&papers::RULES, table, &lent_labels(labels), space)
+    rules::planned(&rules::RULES, table, &lent_labels(labels), space)
 }
 
-/// Of how many rows of a random table one is marked must, one is for one receiver only, and one sends all day, in a round.
+/// Of how many rows of a random table one is marked must, one is for one receiver only, and one sends all day, in a
+/// round.
 #[derive(Clone, Copy)]
 struct OneIn {
     must: u32,
@@ -80,7 +97,8 @@ fn random_gap(sequence: &mut Sequence, ticks: u32) -> u16 {
     sequence.within(0, most.min(MAX_GAP as u32)) as u16
 }
 
-/// A table that passes its checks, of so many rows, with windows up to `longest` ticks and those that send all day, and with no gap.
+/// A table that passes its checks, of so many rows, with windows up to `longest` ticks and those that send all day, and
+/// with no gap.
 fn random_table(sequence: &mut Sequence, rows: usize, ticks: u32, longest: u32, one_in: OneIn) -> Table {
     let kind = if sequence.one_in(2) {
         Kind::Round
@@ -110,7 +128,11 @@ fn random_table(sequence: &mut Sequence, rows: usize, ticks: u32, longest: u32, 
             table.ends.push((start + length) as u16);
         }
         let must = sequence.one_in(one_in.must) as u8;
-        let only = if sequence.one_in(one_in.only) { sequence.within(1, 2) as u8 } else { 0 };
+        let only = if sequence.one_in(one_in.only) {
+            sequence.within(1, 2) as u8
+        } else {
+            0
+        };
         table.marks.push(2 * only + must);
     }
     table
@@ -119,7 +141,8 @@ fn random_table(sequence: &mut Sequence, rows: usize, ticks: u32, longest: u32, 
 fn random_setting(sequence: &mut Sequence, rows: usize) -> Table {
     let ticks = [2, 3, 10, 24, 60, 100, 1_000, 43_200][sequence.within(0, 7) as usize];
     let longest = (ticks * sequence.within(1, 12) / rows.max(1) as u32).clamp(1, ticks);
-    // musts for one receiver only soon leave no plan, and so do musts beside rows that send all day: each is rare in many tables
+    // musts for one receiver only soon leave no plan, and so do musts beside rows that send all day: each is rare in
+    // many tables
     let one_in = OneIn {
         must: [3, 8, 20, 1_000][sequence.within(0, 3) as usize],
         only: [1, 2, 4, 1_000][sequence.within(0, 3) as usize],
@@ -139,7 +162,8 @@ fn set_length(table: &mut Table, i: usize, length: u16) {
     table.ends[i] = ((table.starts[i] as u32 + length as u32) % table.ticks as u32) as u16;
 }
 
-/// Whether it decides what is right that row i sends all day: with its first tick alone, and with one tick less than all, the answer or the labels are others.
+/// Whether it decides what is right that row i sends all day: with its first tick alone, and with one tick less than
+/// all, the answer or the labels are others.
 fn all_day_decides(table: &Table, i: usize, right: &(u8, usize, Vec<u8>)) -> [bool; 2] {
     [1, table.ticks - 1].map(|length| {
         let mut other = table.clone();
@@ -153,7 +177,8 @@ fn for_either(mark: u8) -> u8 {
     [0, 1, 0, 1, 0, 1][mark as usize]
 }
 
-/// Whether the mark of row i decides what is right: the same mark for either receiver gives another answer or other labels.
+/// Whether the mark of row i decides what is right: the same mark for either receiver gives another answer or other
+/// labels.
 fn decides(table: &Table, i: usize, right: &(u8, usize, Vec<u8>)) -> bool {
     let mut other = table.clone();
     other.marks[i] = for_either(table.marks[i]);
@@ -194,10 +219,14 @@ fn up_to_8_rows_against_all_labels() {
     let (mut none, mut runs) = (0, 0);
     let (mut deciding, mut all_day, mut all_day_deciding) = ([0; 6], 0, [0; 2]);
     for turn in 0..12_000 {
-        let rows = if turn % 8 == 0 { 8 } else { sequence.within(0, 7) as usize };
+        let rows = if turn % 8 == 0 {
+            8
+        } else {
+            sequence.within(0, 7) as usize
+        };
         let table = random_setting(&mut sequence, rows);
         let right = right_plan(&table, rows, SPACE_BYTES + 9);
-        let tried = papers::plan_by_trying(&papers::RULES, &table);
+        let tried = rules::plan_by_trying(&rules::RULES, &table);
         assert_eq!(tried, (right.0 == 0).then(|| right.2.clone()), "{table:?}");
         none += u32::from(compare_plans(&table, SPACE_BYTES + 9, &right) == 8);
         runs += u32::from(table.kind != Kind::Round);
@@ -217,11 +246,14 @@ fn up_to_8_rows_against_all_labels() {
         all_day_deciding[0] > 1_000 && all_day_deciding[1] > 150,
         "{all_day} rows that send all day, of which decide: {all_day_deciding:?}"
     );
-    assert!(deciding[2..].iter().all(|&times| times > 300), "marks that decide: {deciding:?}");
+    assert!(
+        deciding[2..].iter().all(|&times| times > 300),
+        "marks that decide: {deciding:?}"
+    );
 }
 
-/// Rounds and runs of up to 30 ticks with each gap up to beyond R, against all labels; and how many of them tell the right rules from those without a gap and those that
-/// misread it.
+/// Rounds and runs of up to 30 ticks with each gap up to beyond R, against all labels; and how many of them tell the
+/// right rules from those without a gap and those that misread it.
 #[test]
 fn gaps_from_0_to_beyond_the_round() {
     let mut sequence = Sequence::new(150);
@@ -230,7 +262,11 @@ fn gaps_from_0_to_beyond_the_round() {
         only: 4,
         all_day: 40,
     };
-    let others = [&[("no gap", [true, true], papers::former::BEFORE_4)], &papers::misread::ALL[..]].concat();
+    let others = [
+        &[("no gap", [true, true], rules::plain::NO_GAP)],
+        &rules::misread::ALL[..],
+    ]
+    .concat();
     let mut told = vec![[0; 2]; others.len()];
     for _ in 0..600 {
         let (rows, ticks) = (sequence.within(1, 6) as usize, sequence.within(2, 30));
@@ -240,11 +276,11 @@ fn gaps_from_0_to_beyond_the_round() {
             let table = table.clone().with_gap(gap);
             let right = right_plan(&table, rows, SPACE_BYTES);
             let labels = (right.0 == 0).then(|| right.2.clone());
-            assert_eq!(papers::plan_by_trying(&papers::RULES, &table), labels, "{table:?}");
+            assert_eq!(rules::plan_by_trying(&rules::RULES, &table), labels, "{table:?}");
             compare_plan(hubplan::plan, &table, rows, SPACE_BYTES, &right);
             compare_plan(port::plan, &table, rows, SPACE_BYTES, &right);
             for ((_, _, rules), times) in others.iter().zip(&mut told) {
-                count_kind(times, &table, papers::plan_by_trying(rules, &table) != labels);
+                count_kind(times, &table, rules::plan_by_trying(rules, &table) != labels);
             }
         }
     }
@@ -262,11 +298,15 @@ fn larger_tables_against_the_search() {
     let mut none = 0;
     let (mut deciding, mut all_day, mut all_day_deciding, mut gaps_deciding) = ([0; 6], 0, [0; 2], [0; 2]);
     for turn in 0..3_000 {
-        let rows = if turn % 4 == 0 { 64 } else { sequence.within(9, 64) as usize };
+        let rows = if turn % 4 == 0 {
+            64
+        } else {
+            sequence.within(9, 64) as usize
+        };
         let table = random_setting(&mut sequence, rows);
         let right = right_plan(&table, rows, SPACE_BYTES);
         if right.0 == 0 {
-            assert!(papers::is_plan(&papers::RULES, &table, &right.2));
+            assert!(rules::is_plan(&rules::RULES, &table, &right.2));
         }
         count_kind(&mut gaps_deciding, &table, gap_decides(&table, &right));
         none += u32::from(compare_plans(&table, SPACE_BYTES, &right) == 8);
@@ -286,7 +326,10 @@ fn larger_tables_against_the_search() {
         all_day_deciding[0] > 200 && all_day_deciding[1] > 15,
         "{all_day} tables with rows that send all day, of which the first decides: {all_day_deciding:?}"
     );
-    assert!(deciding[2..].iter().all(|&times| times > 100), "marks that decide: {deciding:?}");
+    assert!(
+        deciding[2..].iter().all(|&times| times > 100),
+        "marks that decide: {deciding:?}"
+    );
     println!("rounds and runs of 9 to 64 rows that the gap decides: {gaps_deciding:?}");
     assert!(gaps_deciding.iter().all(|&times| times > 200), "{gaps_deciding:?}");
 }
@@ -309,11 +352,17 @@ fn half_of_the_heard_must() {
         let table = deep(64, 2, 9, 800 + seed);
         let right = right_plan(&table, 64, SPACE_BYTES);
         let must = half_heard_must(table.clone());
-        assert_eq!(must.marks.iter().filter(|&&mark| mark == mark::MUST).count(), right.1.div_ceil(2));
+        assert_eq!(
+            must.marks.iter().filter(|&&mark| mark == mark::MUST).count(),
+            right.1.div_ceil(2)
+        );
         assert_eq!(right_plan(&must, 64, SPACE_BYTES), right, "{must:?}");
         assert_eq!(compare_plans(&must, SPACE_BYTES, &right), 0);
         let mixed = mixed_marks(table);
-        assert_eq!(compare_plans(&mixed, SPACE_BYTES, &right_plan(&mixed, 64, SPACE_BYTES)), 0);
+        assert_eq!(
+            compare_plans(&mixed, SPACE_BYTES, &right_plan(&mixed, 64, SPACE_BYTES)),
+            0
+        );
     }
 }
 
@@ -333,8 +382,8 @@ fn mixtures_of_up_to_7_rows_against_all_labels() {
     for _ in 0..12_000 {
         let rows = sequence.within(1, 7) as usize;
         let table = mixture(&mut sequence, rows);
-        let right = match papers::plan_by_trying(&papers::RULES, &table) {
-            Some(labels) => (0, papers::heard(&labels), labels),
+        let right = match rules::plan_by_trying(&rules::RULES, &table) {
+            Some(labels) => (0, rules::heard(&labels), labels),
             None => (8, 0, lent_labels(rows)),
         };
         compare_mixture(&table, &right, &mut met);
@@ -348,16 +397,20 @@ fn mixtures_of_up_to_64_rows_against_the_search() {
     let mut sequence = Sequence::new(830);
     let mut met = [0; 9];
     for turn in 0..800 {
-        let rows = if turn % 4 == 0 { 64 } else { sequence.within(8, 64) as usize };
+        let rows = if turn % 4 == 0 {
+            64
+        } else {
+            sequence.within(8, 64) as usize
+        };
         let table = mixture(&mut sequence, rows);
         compare_mixture(&table, &right_plan(&table, rows, SPACE_BYTES), &mut met);
     }
     assert!(met.iter().all(|&times| times > 40), "{met:?}");
 }
 
-/// The old planner can hear too few rows or find no plan; what it gives is a plan.
+/// Placing each row on the first receiver that is free can hear too few rows or find no plan; what it gives is a plan.
 #[test]
-fn the_old_planner_gives_plans() {
+fn first_free_gives_plans() {
     let mut sequence = Sequence::new(350);
     let (mut fewer, mut missed) = (0, 0);
     for _ in 0..3_000 {
@@ -365,10 +418,21 @@ fn the_old_planner_gives_plans() {
         let table = random_setting(&mut sequence, rows);
         let right = right_plan(&table, rows, SPACE_BYTES);
         let mut labels = vec![7; rows];
-        match first_free::plan(table.kind, table.ticks, table.gap, &table.starts, &table.ends, &table.marks, &mut labels) {
+        match first_free::plan(
+            table.kind,
+            table.ticks,
+            table.gap,
+            &table.starts,
+            &table.ends,
+            &table.marks,
+            &mut labels,
+        ) {
             Ok(count) => {
-                assert!(papers::is_plan(&papers::RULES, &table, &labels), "{table:?} {labels:?}");
-                assert!(count == papers::heard(&labels) && count <= right.1, "{table:?} {labels:?}");
+                assert!(rules::is_plan(&rules::RULES, &table, &labels), "{table:?} {labels:?}");
+                assert!(
+                    count == rules::heard(&labels) && count <= right.1,
+                    "{table:?} {labels:?}"
+                );
                 fewer += u32::from(count < right.1);
             }
             Err(refusal) => {
@@ -377,7 +441,10 @@ fn the_old_planner_gives_plans() {
             }
         }
     }
-    assert!(fewer > 200 && missed > 200, "{fewer} heard fewer, {missed} plans missed");
+    assert!(
+        fewer > 200 && missed > 200,
+        "{fewer} heard fewer, {missed} plans missed"
+    );
 }
 
 /// Damages a table in one to three places, so that every refusal before 8 comes first now and then.
@@ -401,7 +468,11 @@ fn damage(sequence: &mut Sequence, table: &mut Table, labels: &mut usize, space:
             8 => {
                 if let Kind::Run(hours) = &mut table.kind {
                     let receiver = sequence.within(0, 1) as usize;
-                    hours[receiver] = if sequence.one_in(2) { [1, 0] } else { [0, table.ticks.wrapping_add(1)] };
+                    hours[receiver] = if sequence.one_in(2) {
+                        [1, 0]
+                    } else {
+                        [0, table.ticks.wrapping_add(1)]
+                    };
                 }
             }
             9 | 10 if table.rows() > 0 && table.rows() == table.ends.len() => {
@@ -419,9 +490,19 @@ fn damage(sequence: &mut Sequence, table: &mut Table, labels: &mut usize, space:
             }
             11 | 12 if !table.marks.is_empty() => {
                 let i = sequence.within(0, table.marks.len() as u32 - 1) as usize;
-                table.marks[i] = if sequence.one_in(2) { 6 } else { sequence.within(6, 255) as u8 };
+                table.marks[i] = if sequence.one_in(2) {
+                    6
+                } else {
+                    sequence.within(6, 255) as u8
+                };
             }
-            13 | 14 => table.gap = if sequence.one_in(2) { 601 } else { sequence.within(601, 65_535) as u16 },
+            13 | 14 => {
+                table.gap = if sequence.one_in(2) {
+                    601
+                } else {
+                    sequence.within(601, 65_535) as u16
+                }
+            }
             _ => {}
         }
     }
@@ -444,7 +525,7 @@ fn damaged_tables_are_refused_by_number() {
 }
 
 #[test]
-fn edges_of_paper_01() {
+fn edges_by_hand() {
     let plan = |table: &Table, labels: usize, space: usize| {
         let right = right_plan(table, labels, space);
         compare_plan(hubplan::plan, table, labels, space, &right)
@@ -465,15 +546,15 @@ fn edges_of_paper_01() {
     assert_eq!(plan(&of(Kind::Round, 100, &[(5, 100)]), 1, SPACE_BYTES), 6);
     assert_eq!(plan(&of(open(100), 100, &[(5, 100)]), 1, SPACE_BYTES), 0);
 
-    // the session of paper 01
+    // the session: three rows that overlap, and one over the end of the day
     let table = of(Kind::Round, 100, &[(10, 30), (20, 40), (25, 50), (90, 10)]);
     assert_eq!(right_plan(&table, 4, SPACE_BYTES), (0, 3, vec![1, 2, 0, 1]));
     assert_eq!(plan(&table, 4, SPACE_BYTES), 0);
     let mut tape = [0xee; 26];
     assert_eq!(table.write_plan(&[1, 2, 0, 1], &mut tape), Ok(26));
     let right = [
-        0x10, 0x00, 0x64, 0x20, 0x01, 0x30, 0x00, 0x00, 0x0a, 0x00, 0x1e, 0x30, 0x03, 0x00, 0x5a, 0x00, 0x0a, 0x20, 0x02, 0x30, 0x01, 0x00, 0x14,
-        0x00, 0x28, 0x7f,
+        0x10, 0x00, 0x64, 0x20, 0x01, 0x30, 0x00, 0x00, 0x0a, 0x00, 0x1e, 0x30, 0x03, 0x00, 0x5a, 0x00, 0x0a, 0x20,
+        0x02, 0x30, 0x01, 0x00, 0x14, 0x00, 0x28, 0x7f,
     ];
     assert_eq!(tape, right);
     assert_eq!(table.write_plan(&[1, 2, 0, 1], &mut tape[..25]), Err(Refusal::Buffer));
@@ -483,7 +564,14 @@ fn edges_of_paper_01() {
 #[test]
 fn marks_by_hand() {
     assert_eq!(
-        [mark::MAY, mark::MUST, mark::MAY_1, mark::MUST_1, mark::MAY_2, mark::MUST_2],
+        [
+            mark::MAY,
+            mark::MUST,
+            mark::MAY_1,
+            mark::MUST_1,
+            mark::MAY_2,
+            mark::MUST_2
+        ],
         [0, 1, 2, 3, 4, 5]
     );
     // windows, marks, and the labels worked out by hand; none for refusal 8
@@ -506,7 +594,11 @@ fn marks_by_hand() {
         (first_shut, &[(1, 2)], &[5], Some(&[2])),
     ];
     for (kind, windows, marks, labels) in cases {
-        let rows: Vec<(u16, u16, u8)> = windows.iter().zip(marks).map(|(&(start, end), &mark)| (start, end, mark)).collect();
+        let rows: Vec<(u16, u16, u8)> = windows
+            .iter()
+            .zip(marks)
+            .map(|(&(start, end), &mark)| (start, end, mark))
+            .collect();
         let table = table_of(kind, 10, &rows);
         let right = right_plan(&table, rows.len(), SPACE_BYTES);
         assert_eq!((right.0 == 0).then_some(&right.2[..]), labels, "{table:?}");
@@ -515,17 +607,41 @@ fn marks_by_hand() {
     }
 }
 
-/// The labels of a table worked out by hand, or the refusal: planned and written. After a refusal labels, working space (8 aside) and tape are as they were.
+/// The labels of a table worked out by hand, or the refusal: planned and written. After a refusal labels, working space
+/// (8 aside) and tape are as they were.
 fn by_hand(table: &Table, labels: Result<&[u8], u8>) {
     let rows = table.rows();
     let right = right_plan(table, rows, SPACE_BYTES);
-    assert_eq!(if right.0 == 0 { Ok(&right.2[..]) } else { Err(right.0) }, labels, "{table:?}");
+    assert_eq!(
+        if right.0 == 0 { Ok(&right.2[..]) } else { Err(right.0) },
+        labels,
+        "{table:?}"
+    );
     compare_plan(hubplan::plan, table, rows, SPACE_BYTES, &right);
     compare_plan(port::plan, table, rows, SPACE_BYTES, &right);
     // where there is no plan labels 1 for all are none
     let offered = labels.map_or(vec![1; rows], <[u8]>::to_vec);
-    let refusal = compare_written(&papers::RULES, table, &offered, vec![0x55; PLAN_TAPE_BYTES]);
+    let refusal = compare_written(&rules::RULES, table, &offered, vec![0x55; PLAN_TAPE_BYTES]);
     assert_eq!(refusal, if right.0 == 8 { 9 } else { right.0 }, "{table:?}");
+}
+
+/// So many rows that are clear of each other, which can all have label 1, and after them equal windows, two or three of
+/// each, which cannot: a planner that settles many rows at once must take back what it cannot have.
+#[test]
+fn rows_that_are_clear_before_rows_that_are_not() {
+    for clear in 0..=MAX_ROWS {
+        for equal in [2, 3] {
+            let mut rows: Vec<(u16, u16, u8)> = (0..clear as u16).map(|i| (4 * i, 4 * i + 2, 0)).collect();
+            let mut labels = vec![1; clear];
+            for i in 0..MAX_ROWS - clear {
+                let start = 4 * (clear + i / equal) as u16;
+                rows.push((start, start + 2, 0));
+                labels.push([1, 2, 0][i % equal]);
+            }
+            by_hand(&table_of(Kind::Round, 300, &rows), Ok(&labels));
+            by_hand(&table_of(Kind::Run([[0, 300]; 2]), 300, &rows), Ok(&labels));
+        }
+    }
 }
 
 /// Rows in a round or run of so many ticks, and the labels or the refusal.
@@ -534,14 +650,29 @@ fn all_day_by_hand() {
     type Case<'a> = (Kind, u16, &'a [(u16, u16, u8)], Result<&'a [u8], u8>);
     let (round, run) = (Kind::Round, Kind::Run([[0, 10]; 2]));
     let cases: [Case; 24] = [
-        // "Three of them alone in a round, with mark 0, give labels 1 2 0."
+        // three of them alone: one for each receiver
         (round, 10, &[(3, 3, 0), (7, 7, 0), (0, 0, 0)], Ok(&[1, 2, 0])),
         (round, 10, &[(3, 3, 0), (3, 3, 0), (3, 3, 0)], Ok(&[1, 2, 0])),
-        (round, 43_200, &[(0, 0, 0), (43_199, 43_199, 0), (1, 1, 0)], Ok(&[1, 2, 0])),
-        // "Such a window overlaps every other."
+        (
+            round,
+            43_200,
+            &[(0, 0, 0), (43_199, 43_199, 0), (1, 1, 0)],
+            Ok(&[1, 2, 0]),
+        ),
+        // each overlaps every other window
         (round, 10, &[(3, 3, 1), (0, 2, 0), (5, 8, 0)], Ok(&[1, 2, 2])),
-        (round, 10, &[(3, 3, 0), (0, 4, 0), (2, 6, 0), (5, 9, 0)], Ok(&[1, 2, 0, 2])),
-        (round, 10, &[(0, 4, 1), (3, 3, 0), (2, 6, 1), (5, 9, 0)], Ok(&[1, 0, 2, 1])),
+        (
+            round,
+            10,
+            &[(3, 3, 0), (0, 4, 0), (2, 6, 0), (5, 9, 0)],
+            Ok(&[1, 2, 0, 2]),
+        ),
+        (
+            round,
+            10,
+            &[(0, 4, 1), (3, 3, 0), (2, 6, 1), (5, 9, 0)],
+            Ok(&[1, 0, 2, 1]),
+        ),
         (round, 10, &[(3, 3, 1), (8, 8, 1), (5, 6, 0)], Ok(&[1, 2, 0])),
         (round, 10, &[(3, 3, 1), (8, 8, 1), (5, 6, 1)], Err(8)),
         (round, 10, &[(3, 3, 1), (8, 8, 1), (4, 4, 1)], Err(8)),
@@ -550,7 +681,7 @@ fn all_day_by_hand() {
         (round, 2, &[(0, 0, 0), (1, 1, 0), (0, 1, 0)], Ok(&[1, 2, 0])),
         (round, 2, &[(1, 1, 0), (0, 1, 0), (1, 0, 0)], Ok(&[1, 2, 2])),
         (round, 2, &[(0, 0, 1), (1, 1, 1), (1, 0, 1)], Err(8)),
-        // "both must still be below R, and a run refuses it as before"
+        // start and end are below R, and a run refuses such a row
         (round, 10, &[(9, 9, 0)], Ok(&[1])),
         (round, 10, &[(10, 10, 0)], Err(6)),
         (round, 43_200, &[(43_200, 43_200, 0)], Err(6)),
@@ -558,7 +689,7 @@ fn all_day_by_hand() {
         (run, 10, &[(0, 0, 0)], Err(6)),
         (run, 10, &[(1, 2, 0), (9, 9, 0)], Err(6)),
         (run, 10, &[(10, 10, 0)], Err(6)),
-        // P12, whose second row is now a window, and the same with a mark that is not refused
+        // beside a row with a mark that is refused, and with one that is not
         (round, 10, &[(1, 2, 9), (3, 3, 0)], Err(7)),
         (round, 10, &[(1, 2, 5), (3, 3, 0)], Ok(&[2, 1])),
         (round, 10, &[(3, 3, 6)], Err(7)),
@@ -588,7 +719,7 @@ fn gaps_by_hand() {
     let (round, run) = (Kind::Round, Kind::Run([[0, 10]; 2]));
     let session: &[(u16, u16, u8)] = &[(10, 30, 0), (20, 40, 0), (25, 50, 0), (90, 10, 0)];
     let cases: [Case; 48] = [
-        // "A receiver needs g ticks between two different windows": those that touch have none
+        // windows that touch have no tick between them
         (round, 10, 0, &[(8, 2, 0), (2, 8, 0)], Ok(&[1, 1])),
         (round, 10, 1, &[(8, 2, 0), (2, 8, 0)], Ok(&[1, 2])),
         (round, 10, 1, &[(8, 2, 3), (2, 8, 3)], Err(8)),
@@ -597,7 +728,7 @@ fn gaps_by_hand() {
         (run, 10, 1, &[(5, 10, 5), (0, 5, 5)], Err(8)),
         (round, 2, 0, &[(0, 1, 0), (1, 0, 0)], Ok(&[1, 1])),
         (round, 2, 1, &[(0, 1, 0), (1, 0, 0)], Ok(&[1, 2])),
-        // "the gaps on both sides must do": from 3 to 5 there are 2 ticks, from 9 on to 0 one and from 8 on to 0 two
+        // the gap holds on both sides: from 3 to 5 there are 2 ticks, from 9 on to 0 one and from 8 on to 0 two
         (round, 10, 1, &[(0, 3, 0), (5, 9, 0)], Ok(&[1, 1])),
         (round, 10, 2, &[(0, 3, 0), (5, 9, 0)], Ok(&[1, 2])),
         (round, 10, 2, &[(0, 3, 3), (5, 9, 3)], Err(8)),
@@ -622,7 +753,8 @@ fn gaps_by_hand() {
         (run, 10, 10, &[(0, 1, 0), (5, 6, 0)], Ok(&[1, 2])),
         (run, 10, 8, &[(0, 1, 0), (9, 10, 0)], Ok(&[1, 1])),
         (run, 10, 600, &[(0, 1, 0), (9, 10, 0), (4, 5, 0)], Ok(&[1, 2, 0])),
-        // "A window is never too close to itself": the rest of the round is shorter than g; equal windows in two rows are two windows
+        // a window is not too close to itself, where the rest of the round is shorter than g; equal windows in two rows
+        // are two windows
         (round, 10, 3, &[(3, 1, 1)], Ok(&[1])),
         (round, 10, 600, &[(3, 1, 1), (3, 1, 1)], Ok(&[1, 2])),
         (round, 10, 1, &[(4, 5, 0), (4, 5, 0), (4, 5, 0)], Ok(&[1, 2, 0])),
@@ -633,7 +765,7 @@ fn gaps_by_hand() {
         (Kind::Run([[2, 8], [0, 10]]), 10, 600, &[(2, 8, 3)], Ok(&[1])),
         (run, 10, 600, &[(0, 5, 3), (5, 10, 5)], Ok(&[1, 2])),
         (round, 10, 600, &[(0, 5, 3), (5, 0, 5)], Ok(&[1, 2])),
-        // the session of paper 01: row 3 has no tick before row 0, 10 before row 1 and 15 before row 2
+        // the session: row 3 has no tick before row 0, 10 before row 1 and 15 before row 2
         (round, 100, 0, session, Ok(&[1, 2, 0, 1])),
         (round, 100, 10, session, Ok(&[1, 2, 0, 2])),
         (round, 100, 15, session, Ok(&[1, 0, 2, 2])),
@@ -642,15 +774,28 @@ fn gaps_by_hand() {
         (round, 43_200, 600, &[(0, 21_000, 0), (21_600, 42_600, 0)], Ok(&[1, 1])),
         (round, 43_200, 600, &[(0, 21_001, 0), (21_600, 42_600, 0)], Ok(&[1, 2])),
         (round, 43_200, 600, &[(0, 21_000, 0), (21_600, 42_601, 0)], Ok(&[1, 2])),
-        (Kind::Run([[0, 43_200]; 2]), 43_200, 600, &[(0, 1, 0), (601, 43_200, 0)], Ok(&[1, 1])),
-        (Kind::Run([[0, 43_200]; 2]), 43_200, 600, &[(0, 1, 0), (600, 43_200, 0)], Ok(&[1, 2])),
+        (
+            Kind::Run([[0, 43_200]; 2]),
+            43_200,
+            600,
+            &[(0, 1, 0), (601, 43_200, 0)],
+            Ok(&[1, 1]),
+        ),
+        (
+            Kind::Run([[0, 43_200]; 2]),
+            43_200,
+            600,
+            &[(0, 1, 0), (600, 43_200, 0)],
+            Ok(&[1, 2]),
+        ),
     ];
     for (kind, ticks, gap, rows, labels) in cases {
         by_hand(&table_of(kind, ticks, rows).with_gap(gap), labels);
     }
 }
 
-/// Wrong in R, hours, gap, window and mark: mended one by one, planner and writer refuse by 4, 5 (in a run), 14, 6 and 7.
+/// Wrong in R, hours, gap, window and mark: mended one by one, planner and writer refuse by 4, 5 (in a run), 14, 6 and
+/// 7.
 #[test]
 fn refusal_14_comes_after_5_and_before_the_rows() {
     for gap in [0, 600, 601, 65_535] {
@@ -677,19 +822,21 @@ fn refusal_14_comes_after_5_and_before_the_rows() {
     }
 }
 
-/// Rules before a request, which know no gap: whether they know rows that send all day, and the highest mark that they know.
-struct Former {
-    rules: papers::Rules,
+/// Rules for plain tables (tests/rules/plain.rs), which know no gap: whether they know rows that send all day, and the
+/// highest mark that they know.
+struct Plain {
+    rules: rules::Rules,
     all_day: bool,
     highest_mark: u8,
 }
 
-/// What the former rules refuse of a table that passes its checks now: the first row that sends all day (6) or has a mark that they do not know (7); 0 where they know all rows.
-fn unknown(former: &Former, table: &Table) -> u8 {
+/// What the plain rules refuse of a table that passes its checks: the first row that sends all day (6) or has a mark
+/// that they do not know (7); 0 where they know all rows.
+fn unknown(plain: &Plain, table: &Table) -> u8 {
     let of_row = |i: usize| {
-        if is_all_day(table, i) && !former.all_day {
+        if is_all_day(table, i) && !plain.all_day {
             6
-        } else if table.marks[i] > former.highest_mark {
+        } else if table.marks[i] > plain.highest_mark {
             7
         } else {
             0
@@ -698,58 +845,74 @@ fn unknown(former: &Former, table: &Table) -> u8 {
     (0..table.rows()).map(of_row).find(|&refusal| refusal > 0).unwrap_or(0)
 }
 
-/// A table that the former rules know: it has no gap; where they do not know them, rows that send all day have a tick less and marks become those for either receiver.
-fn as_known(former: &Former, table: &Table) -> Table {
+/// A table that the plain rules know: it has no gap; where they do not know them, rows that send all day have a tick
+/// less and marks become those for either receiver.
+fn as_known(plain: &Plain, table: &Table) -> Table {
     let mut known = table.clone().with_gap(0);
     for i in 0..table.rows() {
-        if is_all_day(table, i) && !former.all_day {
+        if is_all_day(table, i) && !plain.all_day {
             set_length(&mut known, i, table.ticks - 1);
         }
-        if table.marks[i] > former.highest_mark {
+        if table.marks[i] > plain.highest_mark {
             known.marks[i] = for_either(table.marks[i]);
         }
     }
     known
 }
 
-/// Plans a table that the former rules know, and writes tapes: all as by those rules. Gives the refusals of plan and tape.
-fn compare_with_former(sequence: &mut Sequence, former: &Former, table: &Table) -> (u8, u8) {
+/// Plans a table that the plain rules know, and writes tapes: all as by those rules. Gives the refusals of plan and
+/// tape.
+fn compare_with_plain(sequence: &mut Sequence, plain: &Plain, table: &Table) -> (u8, u8) {
     let rows = table.rows();
-    let plan = papers::planned(&former.rules, table, &lent_labels(rows), SPACE_BYTES);
+    let plan = rules::planned(&plain.rules, table, &lent_labels(rows), SPACE_BYTES);
     compare_plan(hubplan::plan, table, rows, SPACE_BYTES, &plan);
     compare_plan(port::plan, table, rows, SPACE_BYTES, &plan);
     assert_eq!(right_plan(table, rows, SPACE_BYTES), plan, "{table:?}");
-    // the two searches have much in common; all labels are tried by the former rules alone
+    // the two searches have much in common; all labels are tried by the plain rules alone
     if rows <= 7 {
         assert_eq!(
-            papers::plan_by_trying(&former.rules, table),
+            rules::plan_by_trying(&plain.rules, table),
             (plan.0 == 0).then(|| plan.2.clone()),
             "{table:?}"
         );
     }
-    // and what is a plan at all stays, the tape with it
+    // and so is what is a plan at all, and its tape
     let labels: Vec<u8> = plan
         .2
         .iter()
-        .map(|&label| if sequence.one_in(9) { sequence.within(0, 3) as u8 } else { label })
+        .map(|&label| {
+            if sequence.one_in(9) {
+                sequence.within(0, 3) as u8
+            } else {
+                label
+            }
+        })
         .collect();
-    (plan.0, compare_written(&former.rules, table, &labels, vec![0x55; PLAN_TAPE_BYTES]))
+    (
+        plan.0,
+        compare_written(&plain.rules, table, &labels, vec![0x55; PLAN_TAPE_BYTES]),
+    )
 }
 
-/// Random tables, as drawn and with all rows such as the former rules know: they refuse the first row that they do not know, and what they know keeps its plan.
-fn keep_their_plans(former: &Former, seed: u64) -> [[u32; 13]; 3] {
+/// Random tables, as drawn and with all rows such as the plain rules know: they refuse the first row that they do not
+/// know, and a table that they know has the same plan by both rules.
+fn planned_as_plain(plain: &Plain, seed: u64) -> [[u32; 13]; 3] {
     let mut sequence = Sequence::new(seed);
     let [mut refused, mut planned, mut written] = [[0; 13]; 3];
     for turn in 0..2_000 {
-        let rows = if turn % 8 == 0 { 64 } else { sequence.within(0, 20) as usize };
+        let rows = if turn % 8 == 0 {
+            64
+        } else {
+            sequence.within(0, 20) as usize
+        };
         let table = random_setting(&mut sequence, rows);
-        let refusal = unknown(former, &table);
+        let refusal = unknown(plain, &table);
         if refusal > 0 {
             let labels = vec![9; rows];
-            let by_former = papers::planned(&former.rules, &table, &labels, SPACE_BYTES);
-            assert_eq!(by_former, (refusal, 0, labels), "{table:?}");
+            let by_plain = rules::planned(&plain.rules, &table, &labels, SPACE_BYTES);
+            assert_eq!(by_plain, (refusal, 0, labels), "{table:?}");
         }
-        let (plan, tape) = compare_with_former(&mut sequence, former, &as_known(former, &table));
+        let (plan, tape) = compare_with_plain(&mut sequence, plain, &as_known(plain, &table));
         refused[refusal as usize] += 1;
         planned[plan as usize] += 1;
         written[tape as usize] += 1;
@@ -757,51 +920,58 @@ fn keep_their_plans(former: &Former, seed: u64) -> [[u32; 13]; 3] {
     [refused, planned, written]
 }
 
-/// "Tables with only 0 and 1 keep their plans": compared with the rules before request 2, which refuse every other mark and, as yet, start equal to end.
+/// Tables with marks 0 and 1 alone, no row that sends all day and no gap.
 #[test]
-fn tables_with_only_0_and_1_keep_their_plans() {
-    let rules = papers::former::BEFORE_2;
-    let former = Former {
-        rules,
+fn marks_0_and_1_as_by_the_plain_rules() {
+    let plain = Plain {
+        rules: rules::plain::TWO_MARKS,
         all_day: false,
         highest_mark: 1,
     };
-    let met = keep_their_plans(&former, 450);
+    let met = planned_as_plain(&plain, 450);
     let [refused, planned, written] = met;
     assert!(refused[0] > 200 && refused[6] > 200 && refused[7] > 700, "{met:?}");
-    assert!(planned[0] > 1_000 && planned[8] > 200 && written[0] > 300 && written[9] > 300, "{met:?}");
+    assert!(
+        planned[0] > 1_000 && planned[8] > 200 && written[0] > 300 && written[9] > 300,
+        "{met:?}"
+    );
 }
 
-/// Tables in which no row sends all day keep their plans, with marks 0 to 5: compared with the rules before request 3, which refuse start equal to end in a round too.
+/// Tables with marks 0 to 5, no row that sends all day and no gap.
 #[test]
-fn tables_without_all_day_rows_keep_their_plans() {
-    let rules = papers::former::BEFORE_3;
-    let former = Former {
-        rules,
+fn no_row_all_day_as_by_the_plain_rules() {
+    let plain = Plain {
+        rules: rules::plain::PART_DAY,
         all_day: false,
         highest_mark: 5,
     };
-    let met = keep_their_plans(&former, 470);
+    let met = planned_as_plain(&plain, 470);
     let [refused, planned, written] = met;
     assert!(refused[0] > 1_000 && refused[6] > 300, "{met:?}");
-    assert!(planned[0] > 1_000 && planned[8] > 200 && written[0] > 300 && written[9] > 300, "{met:?}");
+    assert!(
+        planned[0] > 1_000 && planned[8] > 200 && written[0] > 300 && written[9] > 300,
+        "{met:?}"
+    );
 }
 
-/// "g of 0 is the former behaviour", with marks 0 to 5 and rows that send all day: compared with the rules before request 4, by which two windows clash where they overlap.
+/// Tables with marks 0 to 5, rows that send all day and no gap: two windows clash where they overlap.
 #[test]
-fn a_gap_of_0_is_the_former_behaviour() {
-    let former = Former {
-        rules: papers::former::BEFORE_4,
+fn a_gap_of_0_as_by_the_plain_rules() {
+    let plain = Plain {
+        rules: rules::plain::NO_GAP,
         all_day: true,
         highest_mark: 5,
     };
-    let met = keep_their_plans(&former, 480);
+    let met = planned_as_plain(&plain, 480);
     let [_, planned, written] = met;
-    assert!(planned[0] > 1_000 && planned[8] > 200 && written[0] > 300 && written[9] > 300, "{met:?}");
+    assert!(
+        planned[0] > 1_000 && planned[8] > 200 && written[0] > 300 && written[9] > 300,
+        "{met:?}"
+    );
 }
 
-/// The labels of a best plan under marks 0 and 1, with each of the marks 2 to 5 put to a row: the writer takes them exactly if that row is not on the receiver that the mark
-/// excludes, and not left out where it must be heard.
+/// The labels of a best plan under marks 0 and 1, with each of the marks 2 to 5 put to a row: the writer takes them
+/// exactly if that row is not on the receiver that the mark excludes, and not left out where it must be heard.
 #[test]
 fn labels_on_the_wrong_receiver_are_no_plan() {
     let mut sequence = Sequence::new(460);
@@ -813,7 +983,7 @@ fn labels_on_the_wrong_receiver_are_no_plan() {
         let (0, _, labels) = right_plan(&table, rows, SPACE_BYTES) else {
             continue;
         };
-        let tape = papers::plan_tape(&table, &labels);
+        let tape = rules::plan_tape(&table, &labels);
         let i = sequence.within(0, rows as u32 - 1) as usize;
         for (mark, wrong_receiver, must) in [(2, 2, false), (3, 2, true), (4, 1, false), (5, 1, true)] {
             table.marks[i] = mark;
@@ -829,11 +999,14 @@ fn labels_on_the_wrong_receiver_are_no_plan() {
             seen[mark as usize][labels[i] as usize] += 1;
         }
     }
-    assert!(seen[2..].iter().flatten().all(|&times| times > 150), "by mark and label: {seen:?}");
+    assert!(
+        seen[2..].iter().flatten().all(|&times| times > 150),
+        "by mark and label: {seen:?}"
+    );
 }
 
-/// The best plan where there is no gap, offered with the gap: "Labels that break the gap are no plan". A tape that is written with a gap or without one is taken: "plan tapes
-/// are still read with g of 0".
+/// The best plan where there is no gap, offered with the gap: labels that break the gap are no plan. A tape that is
+/// written with a gap or without one is taken by the player, since a tape has no gap on it.
 #[test]
 fn labels_that_break_the_gap_are_no_plan() {
     let mut sequence = Sequence::new(490);
@@ -845,14 +1018,64 @@ fn labels_that_break_the_gap_are_no_plan() {
         let (0, _, labels) = right_plan(&without, rows, SPACE_BYTES) else {
             continue;
         };
-        let tape = papers::plan_tape(&table, &labels);
-        let refusal = compare_written(&papers::RULES, &table, &labels, vec![0x55; tape.len()]);
+        let tape = rules::plan_tape(&table, &labels);
+        let refusal = compare_written(&rules::RULES, &table, &labels, vec![0x55; tape.len()]);
         assert!(table.gap > 0 || refusal == 0, "{table:?} {labels:?}");
-        assert_eq!(compare_written(&papers::RULES, &without, &labels, vec![0x55; tape.len()]), 0);
+        assert_eq!(
+            compare_written(&rules::RULES, &without, &labels, vec![0x55; tape.len()]),
+            0
+        );
         assert_eq!(hubplan::start(&tape, 0), Ok(Player { tick: 0 }), "{table:?} {labels:?}");
         seen[refusal as usize] += u32::from(table.gap > 0);
     }
     assert!(seen[0] > 300 && seen[9] > 300, "with a gap: {seen:?}");
+}
+
+/// The longest gap up to 600 that a plan keeps is taken, with exactly the room for its tape; a byte of room less is
+/// refused 10, and a tick of gap more 9, or 14 above 600.
+#[test]
+fn the_longest_gap_that_a_plan_keeps() {
+    let mut sequence = Sequence::new(495);
+    let (mut close, mut longest, mut rounds) = (0, 0, 0);
+    for _ in 0..2_000 {
+        let rows = sequence.within(0, 12) as usize;
+        let table = random_setting(&mut sequence, rows).with_gap(0);
+        let (0, _, labels) = right_plan(&table, rows, SPACE_BYTES) else {
+            continue;
+        };
+        let is_kept = |gap: u16| rules::is_plan(&rules::RULES, &table.clone().with_gap(gap), &labels);
+        // a plan keeps each gap below one that it keeps
+        let (mut kept, mut broken) = (0, MAX_GAP + 1);
+        while kept + 1 < broken {
+            let gap = (kept + broken) / 2;
+            if is_kept(gap) {
+                kept = gap;
+            } else {
+                broken = gap;
+            }
+        }
+        let room = rules::plan_tape(&table, &labels).len();
+        let written = |gap: u16, room: usize| {
+            compare_written(&rules::RULES, &table.clone().with_gap(gap), &labels, vec![0x55; room])
+        };
+        assert_eq!(
+            [written(kept, room), written(kept, room + 1), written(kept, room - 1)],
+            [0, 0, 10],
+            "{table:?} {labels:?}"
+        );
+        assert_eq!(
+            written(kept + 1, room),
+            if kept == MAX_GAP { 14 } else { 9 },
+            "{table:?} {labels:?}"
+        );
+        close += u32::from(kept < MAX_GAP);
+        longest += u32::from(kept == MAX_GAP);
+        rounds += u32::from(table.kind == Kind::Round && kept < MAX_GAP);
+    }
+    assert!(
+        close > 500 && longest > 100 && rounds > 200,
+        "{close} below 600, {longest} at 600, {rounds} rounds below 600"
+    );
 }
 
 #[test]
@@ -860,7 +1083,11 @@ fn plan_tapes() {
     let mut sequence = Sequence::new(500);
     let (mut seen, mut all_day) = ([0; 15], 0);
     for turn in 0..20_000 {
-        let rows = if turn % 10 == 0 { 64 } else { sequence.within(0, 12) as usize };
+        let rows = if turn % 10 == 0 {
+            64
+        } else {
+            sequence.within(0, 12) as usize
+        };
         let mut table = random_setting(&mut sequence, rows);
         let mut labels: Vec<u8> = (0..rows).map(|_| sequence.within(0, 2) as u8).collect();
         if !sequence.one_in(4) {
@@ -881,144 +1108,34 @@ fn plan_tapes() {
             sequence.within(0, 8 + 6 * rows as u32) as usize
         };
         let buffer: Vec<u8> = (0..room).map(|i| i as u8 ^ 0x55).collect();
-        let refusal = compare_written(&papers::RULES, &table, &labels, buffer);
+        let refusal = compare_written(&rules::RULES, &table, &labels, buffer);
         seen[refusal as usize] += 1;
         all_day += u32::from(refusal == 0 && (0..rows).any(|i| labels[i] > 0 && is_all_day(&table, i)));
     }
-    assert!([0, 1, 2, 4, 5, 6, 7, 9, 10, 14].iter().all(|&number| seen[number] > 100), "{seen:?}");
+    assert!(
+        [0, 1, 2, 4, 5, 6, 7, 9, 10, 14]
+            .iter()
+            .all(|&number| seen[number] > 100),
+        "{seen:?}"
+    );
     assert!(all_day > 300, "{all_day} tapes with a row that sends all day");
 }
 
-/// A fleet tape, now and then damaged: cut, changed, or with bytes put in.
-fn random_fleet_tape(sequence: &mut Sequence) -> Vec<u8> {
-    let rows = if sequence.one_in(6) {
-        sequence.within(60, 80)
-    } else {
-        sequence.within(0, 12)
-    } as usize;
-    let table = random_setting(sequence, rows);
-    let mut tape = papers::fleet_tape(&table);
-    let bytes = [0x10, 0x11, 0x20, 0x30, 0x3f, 0x40, 0x41, 0x42, 0x43, 0x44, 0x45, 0x46, 0x50, 0x7f, 0, 255];
-    if sequence.one_in(2) {
-        for _ in 0..sequence.within(1, 2) {
-            let at = sequence.within(0, tape.len().max(1) as u32 - 1) as usize;
-            match sequence.within(0, 3) {
-                0 => tape.truncate(at),
-                1 => tape.insert(at, sequence.next() as u8),
-                2 if !tape.is_empty() => tape[at] = bytes[sequence.within(0, bytes.len() as u32 - 1) as usize],
-                _ => tape.push(sequence.next() as u8),
-            }
-        }
-    }
-    tape
-}
-
 #[test]
-fn fleet_tapes() {
-    let mut sequence = Sequence::new(600);
-    let mut seen = [0; 12];
-    for _ in 0..40_000 {
-        let tape = random_fleet_tape(&mut sequence);
-        let places = if sequence.one_in(50) { sequence.within(62, 66) as usize } else { 64 };
-        let mut starts: Vec<u16> = (0..64).map(|i| 0xaa00 + i).collect();
-        let mut ends: Vec<u16> = (0..places).map(|i| 0xbb00 + i as u16).collect();
-        let mut marks: Vec<u8> = (0..64).map(|i| 100 + i).collect();
-        let mut right = (starts.clone(), ends.clone(), marks.clone());
-        let answer = hubplan::read_fleet(&tape, &mut starts, &mut ends, &mut marks);
-        let expected = if places != 64 {
-            Err(Refusal::Lists)
-        } else {
-            match papers::read_fleet(&tape) {
-                None => Err(Refusal::Form),
-                Some(table) if table.rows() > 64 => Err(Refusal::Rows),
-                Some(table) => {
-                    right.0[..table.rows()].copy_from_slice(&table.starts);
-                    right.1[..table.rows()].copy_from_slice(&table.ends);
-                    right.2[..table.rows()].copy_from_slice(&table.marks);
-                    Ok(hubplan::Fleet {
-                        kind: table.kind,
-                        ticks: table.ticks,
-                        rows: table.rows(),
-                    })
-                }
-            }
-        };
-        assert_eq!(answer, expected, "{tape:02x?}");
-        assert_eq!((starts, ends, marks), right, "{tape:02x?}");
-        seen[answer.err().map_or(0, Refusal::number) as usize] += 1;
-    }
-    assert!([0, 1, 2, 11].iter().all(|&number| seen[number] > 200), "{seen:?}");
-}
-
-/// Every byte in the place of a row's command, as the only row and as the second, in a round and in a run.
-#[test]
-fn row_commands_are_40_to_45() {
-    let (round, run) = (&[0x10, 0, 10][..], &[0x11, 0, 10, 0x50, 0, 0, 0, 10, 0, 0, 0, 10][..]);
-    for before in [round, run] {
-        for rows in [&[][..], &[0x45, 0, 5, 0, 7][..]] {
-            for command in 0..=255 {
-                let tape = [before, rows, &[command, 0, 1, 0, 2], &[0x7f]].concat();
-                let (mut starts, mut ends, mut marks) = ([0; 64], [0; 64], [0xee; 64]);
-                let answer = hubplan::read_fleet(&tape, &mut starts, &mut ends, &mut marks);
-                let (mut out, mut space) = ([0; REPLY_BYTES], [0; SPACE_BYTES]);
-                let text = String::from_utf8_lossy(hubplan::reply(&tape, &mut out, &mut space)).to_string();
-                assert_eq!(text, papers::reply(&tape, SPACE_BYTES).1, "{tape:02x?}");
-                let i = rows.len() / 5;
-                if !(0x40..=0x45).contains(&command) {
-                    assert_eq!((answer, marks[i]), (Err(Refusal::Form), 0xee), "{tape:02x?}");
-                    assert_eq!(text, "refused 11\n", "{tape:02x?}");
-                    continue;
-                }
-                assert_eq!(answer.map(|fleet| fleet.rows), Ok(i + 1), "{tape:02x?}");
-                assert_eq!((starts[i], ends[i], marks[i]), (1, 2, command - 0x40), "{tape:02x?}");
-                let receiver = if command < 0x44 { 1 } else { 2 };
-                assert!(text.ends_with(&format!("{i} {receiver}\n")), "{tape:02x?}: {text}");
-            }
-        }
-    }
-}
-
-#[test]
-fn replies() {
-    let mut sequence = Sequence::new(700);
-    let mut seen = [0; 12];
-    for _ in 0..10_000 {
-        let tape = random_fleet_tape(&mut sequence);
-        let room = if sequence.one_in(50) {
-            sequence.within(0, 399) as usize
-        } else {
-            REPLY_BYTES + sequence.within(0, 2) as usize
-        };
-        let before: Vec<u8> = (0..room).map(|i| i as u8 | 0x80).collect();
-        let mut out = before.clone();
-        // 1 stands for an output that is too short, which is written nothing
-        let (refusal, right) = if room < REPLY_BYTES {
-            (1, String::new())
-        } else {
-            papers::reply(&tape, SPACE_BYTES + 5)
-        };
-        let (mut space, after) = spaces(SPACE_BYTES + 5, refusal);
-        let text = hubplan::reply(&tape, &mut out, &mut space).to_vec();
-        assert_eq!(String::from_utf8_lossy(&text), right, "{tape:02x?}");
-        assert_eq!(out[text.len()..], before[text.len()..], "{tape:02x?}");
-        assert!(space == after, "working space, {tape:02x?}");
-        seen[refusal as usize] += 1;
-    }
-    assert!([0, 1, 2, 6, 8, 11].iter().all(|&number| seen[number] > 50), "{seen:?}");
-}
-
-#[test]
-fn the_papers_agree_with_themselves() {
+fn the_rules_by_hand() {
     // the longest tape that `hubplan` takes has 64 rows in a run with room to spare, and 79 in a round
     let one_in = OneIn {
         must: 2,
         only: 2,
         all_day: 2,
     };
-    assert!(papers::fleet_tape(&random_table(&mut Sequence::new(1), 64, 100, 10, one_in)).len() <= FLEET_TAPE_BYTES);
+    assert!(rules::fleet_tape(&random_table(&mut Sequence::new(1), 64, 100, 10, one_in)).len() <= FLEET_TAPE_BYTES);
     let tape = [
-        0x10, 0x00, 0x64, 0x40, 0x00, 0x0a, 0x00, 0x1e, 0x40, 0x00, 0x14, 0x00, 0x28, 0x40, 0x00, 0x19, 0x00, 0x32, 0x40, 0x00, 0x5a, 0x00, 0x0a,
-        0x7f,
+        0x10, 0x00, 0x64, 0x40, 0x00, 0x0a, 0x00, 0x1e, 0x40, 0x00, 0x14, 0x00, 0x28, 0x40, 0x00, 0x19, 0x00, 0x32,
+        0x40, 0x00, 0x5a, 0x00, 0x0a, 0x7f,
     ];
-    assert_eq!(papers::reply(&tape, SPACE_BYTES), (0, "heard 3\n0 1\n1 2\n2 0\n3 1\n".to_string()));
+    assert_eq!(
+        rules::reply(&tape, SPACE_BYTES),
+        (0, "heard 3\n0 1\n1 2\n2 0\n3 1\n".to_string())
+    );
 }

@@ -1,33 +1,26 @@
 # For .ci/processors and tests/processors/figures, which read this file: the calls and their answers, made by the proved library, and the
-# portable crate compiled for other processors. What cannot run here is skipped, and it says so.
+# portable crate compiled for other processors.
 folder=target/processors
 here=tests/processors
 portable=target/portable
 
-skip() {
-    echo "processors: skipped $1: $2"
-    [ "${3:-}" = all ] && exit 0
-    return 1
+# need WHAT TEST..: fails where the test does not hold
+need() {
+    local what=$1
+    shift
+    "$@" || { echo "processors: FAILED: $what; tools/setup installs what is needed" >&2; exit 1; }
 }
 
 # Debian's compiler, which has the sources of `core` beside it, from 1.88 on, since the sources use as_chunks.
 rustc=/usr/bin/rustc
-[ "$(uname -sm)" = "Linux x86_64" ] || skip "other processors" "the proved library, which makes the answers, links into x86-64 Linux programs only" all
-command -v cargo >/dev/null || skip "other processors" "cargo is not there" all
-[ -x "$rustc" ] || skip "other processors" "$rustc, Debian's rustc-web, is not there" all
+need "$rustc, Debian's rustc-web, is not there" [ -x "$rustc" ]
 version=$("$rustc" --version | cut -d' ' -f2)
-[ "$(printf '%s\n' 1.88 "$version" | sort -V | head -n 1)" = 1.88 ] || skip "other processors" "$rustc is $version, and as_chunks needs 1.88" all
+need "$rustc is $version, and as_chunks needs 1.88" [ "$(printf '%s\n' 1.88 "$version" | sort -V | head -n 1)" = 1.88 ]
 library=$("$rustc" --print sysroot)/lib/rustlib/src/rust/library
-[ -d "$library/core" ] || skip "other processors" "the sources of core, Debian's rust-web-src, are not there" all
-
-# has WHAT TOOL..: whether all tools are there
-has() {
-    local what=$1 tool
-    shift
-    for tool in "$@"; do
-        command -v "$tool" >/dev/null || skip "$what" "$tool is not there" || return 1
-    done
-}
+need "the sources of core, Debian's rust-web-src, are not there" [ -d "$library/core" ]
+for tool in cargo arm-none-eabi-gcc qemu-system-arm clang wasm-ld node; do
+    need "$tool is not there" command -v "$tool" >/dev/null
+done
 
 # core_for TARGET: compiles `core` and the empty crate in place of compiler_builtins, once for each version of the compiler
 core_for() {

@@ -1,8 +1,9 @@
-// Which rows cannot be heard by one receiver, as paper 01 and request 4 of paper 02 say it: their windows "overlap or have fewer than g ticks between them".
-// A set of rows is a number whose bit i says that row i, below 8, is in it.
+// Which rows one receiver cannot hear both (docs/RULES.md, Gap): their windows overlap or have fewer than g ticks
+// between them. A set of rows is a number whose bit i says that row i, below 8, is in it.
 use crate::windows::{Day, Kind, Row, Window, after};
 
-// The set of one row. A set of rows takes 8 bits and a set of ticks 64 (`windows`), and a shift has no trait that one function of both could ask for.
+// The set of one row. A set of rows takes 8 bits and a set of ticks 64 (`windows`), and a shift has no trait that one
+// function of both could ask for.
 pub fn one(row: usize) -> u8 {
     1 << (row % 8)
 }
@@ -20,7 +21,7 @@ fn rows_where<T, F: Fn(&T) -> bool>(list: &[T; 8], test: F) -> u8
     rows
 }
 
-// For each row the rows that overlap it: "some tick lies in both".
+// For each row the rows that overlap it: some tick lies in both.
 pub fn overlaps(sets: &[u64; 8]) -> [u8; 8] {
     sets.map(|set| rows_where(sets, |other| other & set != 0))
 }
@@ -33,9 +34,9 @@ fn step(day: Day, tick: u16) -> u16 {
     }
 }
 
-// How many ticks lie between the end of a window and the start of another: the steps of the walk from that end on to that start, "in a round .. round the circle".
-// In a run the walk may not come there.
-pub fn between(day: Day, end: u16, start: u16) -> Option<u16> {
+// How many ticks lie between the end of a window and the start of another: the steps of the walk from that end on to
+// that start, in a round over the end of the day too. In a run the walk may not come there.
+fn between(day: Day, end: u16, start: u16) -> Option<u16> {
     let mut tick = end;
     for steps in 0..day.ticks {
         if tick == start {
@@ -46,7 +47,7 @@ pub fn between(day: Day, end: u16, start: u16) -> Option<u16> {
     None
 }
 
-// Whether fewer than g ticks lie between two windows: "the gaps on both sides must do".
+// Whether fewer than g ticks lie between two windows, on one side or the other.
 fn is_near(day: Day, w: Window, w2: Window) -> bool {
     between(day, w.end, w2.start).is_some_and(|n| n < day.gap)
         || between(day, w2.end, w.start).is_some_and(|n| n < day.gap)
@@ -57,8 +58,8 @@ fn near(day: Day, rows: &[Row; 8], w: Window) -> u8 {
     rows_where(rows, |row| is_near(day, w, row.window))
 }
 
-// For each row the rows that overlap it, which are given, and those with fewer than g ticks between. Each row is placed once, so that its own bit is not asked for:
-// "A window is never too close to itself."
+// For each row the rows that overlap it, which are given, and those with fewer than g ticks between. Each row is placed
+// once, so that its own bit is not asked for: a window is not too close to itself.
 pub fn with_gap(overlaps: &[u8; 8], day: Day, rows: &[Row; 8]) -> [u8; 8] {
     std::array::from_fn(|i| overlaps[i] | near(day, rows, rows[i].window))
 }

@@ -1,4 +1,5 @@
-// Every label list of a table of at most 7 rows is tried, in paper 01's order, and the first plan that hears most is kept.
+// Every label list of a table of at most 7 rows is tried, in the order of plans, and the first plan that hears most is
+// kept.
 ghost use Rattle.std.specs.Prelude.{◌≡◌, false, ◌↔◌};
 
 use crate::clashes::one;
@@ -11,7 +12,8 @@ pub struct Plan {
     pub labels: [u8; 8],
 }
 
-// What the search found: the first of the plans that hear most, if there is a plan; how many plans there are, and how many of them hear most.
+// What the search found: the first of the plans that hear most, if there is a plan; how many plans there are, and how
+// many of them hear most.
 #[derive(Clone, Copy, Default)]
 pub struct Found {
     pub plan: Option<Plan>,
@@ -67,7 +69,8 @@ pub fn rules_of(clashes: &[u8; 8], permissions: &[u8; 8]) -> [Rules; 8] {
 }
 
 impl Rules {
-    // The row may be heard by a receiver if its permission has the receiver's bit and it clashes with none of the receiver's rows.
+    // The row may be heard by a receiver if its permission has the receiver's bit and it clashes with none of the
+    // receiver's rows.
     fn allow(self, receiver: u8, rows: u8) -> bool {
         self.permission & receiver != 0 && rows & self.clashes == 0
     }
@@ -96,11 +99,11 @@ impl Receivers {
 // How many label lists there are of so many rows: 3 to that power.
 pub const LISTS: [u16; 8] = [1, 3, 9, 27, 81, 243, 729, 2187];
 
-// The labels in order: "1 comes before 2, and 2 before 0".
+// The labels in their order.
 const ORDER: [u8; 3] = [1, 2, 0];
 
-// The label list of a number: its digits to base 3 are the places of the labels in the order, the last row's digit the lowest.
-// So the numbers rise as the lists come in paper 01's order.
+// The label list of a number: its digits to base 3 are the places of the labels in the order, the last row's digit the
+// lowest. So the numbers rise as the lists come in the order of plans.
 pub fn labels(rows: usize, number: u16) -> [u8; 8] {
     let mut list = [0; 8];
     let mut rest = number;

@@ -1,4 +1,4 @@
-// A fixed pseudo-random sequence (xorshift), from which the trials take their tables.
+// A fixed pseudo-random sequence (xorshift), from which the trial takes its tables.
 ghost use Rattle.std.specs.Prelude.{◌<◌, ◌≤◌, ◌+◌};
 
 // The state after `state`, which is not 0.

@@ -1,4 +1,4 @@
-// Which ticks a window covers, and which labels its row may have, as paper 01 and requests 2 and 3 of paper 02 say it.
+// Which ticks a window covers, and which labels its row may have (docs/RULES.md, Ticks and windows, Marks).
 // A set of ticks is a number whose bit t says that tick t, below 64, is in it.
 
 // The brute force's own: `window::Kind` belongs to the product, which is compared with what stands here.
@@ -33,14 +33,14 @@ fn one(tick: u16) -> u64 {
     1 << (tick % 64)
 }
 
-// The tick after `tick`, "going from R-1 to 0".
+// The tick after `tick`, which after R-1 is 0.
 pub fn after(ticks: u16, tick: u16) -> u16 {
     let next = tick.wrapping_add(1);
     if next < ticks { next } else { 0 }
 }
 
-// "The window covers start, start+1 and so on, going from R-1 to 0, up to the tick before end"; "start equal to end now covers every tick" (request 3).
-// So the start is covered, and the walk ends where it comes to end after at least one step, which is within one turn.
+// A window covers its start and the ticks after it, from R-1 on to 0, up to the tick before its end; start equal to end
+// covers every tick. So the walk ends where it comes to the end after at least one step, which is within one turn.
 pub fn round_set(ticks: u16, start: u16, end: u16) -> u64 {
     let mut set = 0;
     let mut tick = start;
@@ -54,20 +54,9 @@ pub fn round_set(ticks: u16, start: u16, end: u16) -> u64 {
     set
 }
 
-// "The window covers start to end-1."
+// A window of a run covers its start to the tick before its end.
 pub fn run_set(start: u16, end: u16) -> u64 {
     (start..end).fold(0, |set, tick| set | one(tick))
-}
-
-// The arc of `length` ticks from `start` on, on a circle of `ticks` ticks: a walk of so many steps, where that of a window ends at a tick.
-fn arc_set(ticks: u16, start: u16, length: u16) -> u64 {
-    let mut set = 0;
-    let mut tick = start;
-    for _ in 0..length {
-        set |= one(tick);
-        tick = after(ticks, tick);
-    }
-    set
 }
 
 impl Day {
@@ -84,12 +73,8 @@ impl Day {
     }
 }
 
-pub fn arc_sets(ticks: u16, starts: &[u16; 8], lengths: &[u16; 8]) -> [u64; 8] {
-    std::array::from_fn(|i| arc_set(ticks, starts[i], lengths[i]))
-}
-
-// The labels that a mark leaves a row, as a set: bit 0 for not heard, bit 1 for receiver 1, bit 2 for receiver 2. As a set it takes no loop to say what both mark and hours leave (`&`).
-// "0 and 1 as before, 2 and 3 may and must on receiver 1 only, 4 and 5 may and must on receiver 2 only."
+// The labels that a mark leaves a row, as a set: bit 0 for not heard, bit 1 for receiver 1, bit 2 for receiver 2. 0, 2
+// and 4 may be heard, 1, 3 and 5 must be; 2 and 3 by receiver 1 only, 4 and 5 by receiver 2 only.
 fn marked(mark: u8) -> u8 {
     match mark {
         0 => 7,
@@ -102,7 +87,7 @@ fn marked(mark: u8) -> u8 {
     }
 }
 
-// "A receiver can take a window only if p <= start and end <= q": then `receiver`, its bit, is permitted.
+// A receiver takes a window that starts and ends within its hours: then `receiver`, its bit, is permitted.
 fn taken([opening, closing]: [u16; 2], w: Window, receiver: u8) -> u8 {
     if opening <= w.start && w.end <= closing {
         receiver
@@ -111,7 +96,7 @@ fn taken([opening, closing]: [u16; 2], w: Window, receiver: u8) -> u8 {
     }
 }
 
-// The receivers that can take a window, by their bits. "In a round both receivers are always open."
+// The receivers that can take a window, by their bits: in a round both.
 fn receivers(kind: Kind, w: Window, [first, second]: [[u16; 2]; 2]) -> u8 {
     match kind {
         Kind::Round => 6,

@@ -1,6 +1,5 @@
-// Beacons that send all day (request 3 of paper 02): "In a round, start equal to end now covers every tick, and refusal 6 no longer meets that case;
-// both must still be below R, and a run refuses it as before. Such a window overlaps every other."
-// A call that is refused is judged to have left labels, working space and tape as they were, as each call is (`trial_calls`).
+// Rows that send all day (docs/RULES.md, Ticks and windows): in a round start equal to end covers every tick, so that
+// the window overlaps every other; in a run it is refused.
 use crate::edges::{round_row, run_row};
 use crate::tables;
 use table::Setting;
@@ -28,7 +27,7 @@ fn three(marks: &[u8], expected: Result<&[u8], u8>) -> bool {
     alone(10, &[0, 4, 9], marks, expected)
 }
 
-// "Three of them alone in a round, with mark 0, give labels 1 2 0."
+// Of three alone each receiver hears one.
 fn three_alone(group: Group) -> Group {
     group.with_cases(&[
         three_at(10, &[0, 4, 9]),
@@ -88,13 +87,14 @@ fn beside_others(group: Group) -> Group {
     ])
 }
 
-// Two must rows that send all day, 4–4 and 7–7 in a round of 10 ticks, and a third row with a mark: its start, end and mark as in `edges::row`.
+// Two must rows that send all day, 4–4 and 7–7 in a round of 10 ticks, and a third row with a mark: its start, end and
+// mark as in `edges::row`.
 fn third(start: u16, end: u16, mark: u8, expected: Result<&[u8], u8>) -> bool {
     tables::three(&[4, 7, start], &[4, 7, end], &[1, 1, mark], expected)
 }
 
 // A third row that is one tick: before, at and after the others' starts; that is all ticks but one; that sends all day.
-// It is not heard, and "any third must row" has no plan.
+// It is not heard, and where it must be there is no plan.
 fn thirds(group: Group) -> Group {
     let mut g = group;
     for (start, end) in [(3, 4), (4, 5), (7, 8), (9, 0), (5, 4), (8, 7), (0, 0)] {
@@ -108,7 +108,7 @@ fn thirds(group: Group) -> Group {
 
 // ---- which are taken
 
-// "Both must still be below R."
+// Start and end are below R.
 fn below_ticks(group: Group) -> Group {
     group.with_cases(&[
         round_row(0, 0, 0, Ok(&[1])),
@@ -122,7 +122,7 @@ fn below_ticks(group: Group) -> Group {
     ])
 }
 
-// "A run refuses it as before."
+// A run refuses such a row.
 fn in_runs(group: Group) -> Group {
     group.with_cases(&[
         run_row(0, 0, 0, Err(6)),
@@ -134,7 +134,8 @@ fn in_runs(group: Group) -> Group {
     ])
 }
 
-// "Rows from 0, each for 6 and then 7": a mark above 5 with a window of this kind that is refused, and with one that is taken; two rows.
+// Rows are looked at from 0 on, each for 6 and then for 7: a mark above 5 with a window of this kind that is refused,
+// and with one that is taken; two rows.
 fn in_order(group: Group) -> Group {
     group.with_cases(&[
         round_row(100, 100, 6, Err(6)),
@@ -174,7 +175,7 @@ fn written(group: Group) -> Group {
     ])
 }
 
-// "Such a window overlaps every other": two of them on one receiver, and one beside any other window.
+// Two of them on one receiver, and one beside any other window.
 fn not_a_plan(group: Group) -> Group {
     group.with_cases(&[
         taped(8, &[1, 0, 1], 400, Err(9)),

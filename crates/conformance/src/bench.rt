@@ -1,4 +1,4 @@
-// The cases P1 to P12 of paper 01's bench table, compiled and run.
+// Twelve worked examples, P1 to P12: what is easily got wrong in a table of a few rows.
 use crate::tables::{self, equal, three};
 use table::Setting;
 use trial_calls::{is_planned, run, table_of};

@@ -1,4 +1,4 @@
-// The edges of papers 01 and 02: R, the gap, rows, working space, ends, marks, hours, lists of unequal lengths.
+// Both sides of each limit: R, the gap, rows, working space, windows, marks, hours, lists of unequal lengths.
 use std::array::from_fn;
 use table::Setting;
 use trial_calls::{LENT_BYTES, first, is_planned, is_planned_in, open_all, run, table_of};
@@ -65,7 +65,7 @@ fn ticks(group: Group) -> Group {
     ])
 }
 
-// "14, g above 600, looked at after 5", so that an R that is refused comes before it.
+// 14 for a gap above 600; an R that is refused comes before it.
 fn gaps(group: Group) -> Group {
     let mut g = group;
     for (ticks, gap, expected) in [
@@ -83,7 +83,7 @@ fn gaps(group: Group) -> Group {
 
 // ---- windows and marks
 
-// One row, by its start, end and mark: no plainer as a `window::Row`, since each of the cases below would name its three fields.
+// One row, by its start, end and mark.
 fn row(setting: Setting, start: u16, end: u16, mark: u8, expected: Result<&[u8], u8>) -> bool {
     is_planned(table_of(setting, &[start], &[end], &[mark]), expected)
 }
@@ -98,7 +98,7 @@ pub fn run_row(start: u16, end: u16, mark: u8, expected: Result<&[u8], u8>) -> b
     row(open_all(Kind::Run, 100, 0), start, end, mark, expected)
 }
 
-// "In a round, start and end are both below R"; where they are equal see `all_day`. End 0 means through tick R-1.
+// In a round start and end are below R; where they are equal see `all_day`. End 0 means through tick R-1.
 fn round_windows(group: Group) -> Group {
     group.with_cases(&[
         round_row(90, 100, 0, Err(6)),
@@ -111,7 +111,7 @@ fn round_windows(group: Group) -> Group {
     ])
 }
 
-// "In a run, start is below end and end is at most R."
+// In a run the start is below the end, and the end at most R.
 fn run_windows(group: Group) -> Group {
     group.with_cases(&[
         run_row(90, 100, 0, Ok(&[1])),
@@ -125,7 +125,7 @@ fn run_windows(group: Group) -> Group {
     ])
 }
 
-// "Refusal 7 now begins at mark 6" (request 2 of paper 02).
+// Marks 0 to 5 are taken; 7 from mark 6 on.
 fn marks(group: Group) -> Group {
     group.with_cases(&[
         round_row(10, 20, 1, Ok(&[1])),
@@ -148,7 +148,7 @@ fn in_hours(hours: [[u16; 2]; 2], expected: Result<&[u8], u8>) -> bool {
     )
 }
 
-// "From p to q, with p at most q and q at most R."
+// A receiver is open from p to q: p is at most q, and q at most R.
 fn wrong_hours(group: Group) -> Group {
     group.with_cases(&[
         in_hours([[51, 50], [0, 100]], Err(5)),
@@ -159,7 +159,7 @@ fn wrong_hours(group: Group) -> Group {
     ])
 }
 
-// "p = q is a closed receiver. A receiver can take a window only if p ≤ start and end ≤ q."
+// A receiver takes a window from p on that ends by q; where p is q it is closed.
 fn open_hours(group: Group) -> Group {
     group.with_cases(&[
         in_hours([[10, 20], [15, 25]], Ok(&[1, 2])),
@@ -191,7 +191,8 @@ fn thirds(least: u16) -> [u16; 65] {
     from_fn(|i| least.wrapping_add((i / 3) as u16))
 }
 
-// So many rows, each window three times, and so many ends, with a place for each row's label; of a plan the labels are 1 2 0 over and over.
+// So many rows, each window three times, and so many ends, with a place for each row's label; of a plan the labels are
+// 1 2 0 over and over.
 fn many_rows(rows: usize, ends: usize, bytes: usize, expected: Result<(), u8>) -> bool {
     let labels: [u8; 65] = from_fn(|i| [1, 2, 0][i % 3]);
     is_planned_in(
@@ -207,7 +208,8 @@ fn many_rows(rows: usize, ends: usize, bytes: usize, expected: Result<(), u8>) -
     )
 }
 
-// The table of 64 rows is planned, from 4,608 bytes as from any more (request 9); with 65 it is refused, and with unequal lists before that.
+// The table of 64 rows is planned, from 4,608 bytes as from any more; with 65 it is refused, and with unequal lists
+// before that.
 fn rows(group: Group) -> Group {
     group.with_cases(&[
         many_rows(64, 64, LENT_BYTES, Ok(())),

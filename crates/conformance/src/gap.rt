@@ -1,6 +1,5 @@
-// Retuning takes time (request 4 of paper 02): "A receiver needs g ticks between two different windows. In a round the gap is counted round the circle, and the
-// gaps on both sides must do."
-// A call that is refused is judged to have left labels, working space and tape as they were, as each call is (`trial_calls`).
+// The gap (docs/RULES.md, Gap): a receiver needs g ticks between two different windows, in a round on both sides, over
+// the end of the day too.
 use crate::tables;
 use crate::tape_edges::labels;
 use std::array::from_fn;
@@ -57,7 +56,8 @@ fn apart(group: Group, p: Pair, gap: u16) -> Group {
     ])
 }
 
-// With this gap each has a receiver of its own, and where receiver 1 must hear both there is no plan; both on receiver 1 give 9.
+// With this gap each has a receiver of its own, and where receiver 1 must hear both there is no plan; both on receiver
+// 1 give 9.
 fn close(group: Group, p: Pair, gap: u16) -> Group {
     group.with_cases(&[
         p.is_heard(gap, &[0, 0], Ok(&[1, 2])),
@@ -66,7 +66,7 @@ fn close(group: Group, p: Pair, gap: u16) -> Group {
     ])
 }
 
-// They have so many ticks between them: a gap of as many is kept, "fewer than g" is too close.
+// They have so many ticks between them: a gap of as many is kept, one more is not.
 fn between(group: Group, p: Pair, ticks: u16) -> Group {
     close(apart(group, p, ticks), p, ticks.wrapping_add(1))
 }
@@ -74,12 +74,13 @@ fn between(group: Group, p: Pair, ticks: u16) -> Group {
 fn in_rounds(group: Group) -> Group {
     let mut g = group;
     for (window, window2, ticks) in [
-        // touching windows: "g of 0 is the former behaviour", and with g 1 they are on two receivers; 8–0 and 0–2 touch over the end of the day, 8–2 and 2–8 on both sides
+        // touching windows; 8–0 and 0–2 touch over the end of the day, 8–2 and 2–8 on both sides
         ([0, 4], [4, 8], 0),
         ([8, 0], [0, 2], 0),
         ([8, 2], [2, 8], 0),
-        // "the gaps on both sides must do": 0–3 and 5–8 have 2 ticks on each, 0–3 and 6–8 have 3 within the day and 2 over its end, 0–3 and 5–7 the other way round, and
-        // 4–6 and 8–1, which goes over the end of the day, 2 before it and 3 after it
+        // the lesser of both sides counts: 0–3 and 5–8 have 2 ticks on each, 0–3 and 6–8 have 3 within the day and 2
+        // over its end, 0–3 and 5–7 the other way round, and 4–6 and 8–1, which goes over the end of the day, 2 before
+        // it and 3 after it
         ([0, 3], [5, 8], 2),
         ([0, 3], [6, 8], 2),
         ([6, 8], [0, 3], 2),
@@ -119,7 +120,8 @@ fn in_runs(group: Group) -> Group {
     g
 }
 
-// Marks 2 to 5: 0–4 and 4–8, which touch, with a gap of 1. Between the receivers nothing is owed: with the longest gap both must be heard, and so must 4–5 twice, "two windows".
+// Marks 2 to 5: 0–4 and 4–8, which touch, with a gap of 1. Between the receivers nothing is owed: with the longest gap
+// both must be heard, and so must 4–5 twice.
 fn marks(group: Group) -> Group {
     let p = Pair::new(Kind::Round, [0, 4], [4, 8]);
     let twice = Pair::new(Kind::Round, [4, 5], [4, 5]);
@@ -135,7 +137,8 @@ fn marks(group: Group) -> Group {
     ])
 }
 
-// "Labels that break the gap are no plan, for .. 9"; a tape has no gap on it. In a round 0–3 and 6–8 have 2 ticks over the end of the day, in a run 0–3 and 6–10 have 3 between them.
+// Labels that break the gap are refused 9; a tape has no gap on it. In a round 0–3 and 6–8 have 2 ticks over the end of
+// the day, in a run 0–3 and 6–10 have 3 between them.
 fn tapes(group: Group) -> Group {
     let p = Pair::new(Kind::Round, [0, 3], [6, 8]);
     let one = b"\x10\x00\x0a\x20\x01\x30\x00\x00\x00\x00\x03\x30\x01\x00\x06\x00\x08\x20\x02\x7f";
@@ -156,7 +159,8 @@ fn tapes(group: Group) -> Group {
 
 // ---- one window
 
-// A row that must be heard, in a round or a run of 10 ticks. In the run receiver 1 is open for its window and no longer, and receiver 2 is closed.
+// A row that must be heard, in a round or a run of 10 ticks. In the run receiver 1 is open for its window and no
+// longer, and receiver 2 is closed.
 fn alone(kind: Kind, gap: u16, start: u16, end: u16) -> bool {
     let setting = Setting {
         hours: [[start, end], [0, 0]],
@@ -165,7 +169,8 @@ fn alone(kind: Kind, gap: u16, start: u16, end: u16) -> bool {
     is_planned(table_of(setting, &[start], &[end], &[1]), Ok(&[1]))
 }
 
-// "A window is never too close to itself", also where R less its length is below g. In a run nothing is owed to tick 0, to R or to the hours.
+// A window is not too close to itself, also where R less its length is below g. In a run nothing is owed to tick 0, to
+// R or to the hours.
 fn one_window(group: Group) -> Group {
     group.with_cases(&[
         alone(Kind::Round, 2, 0, 8),
@@ -183,12 +188,13 @@ fn one_window(group: Group) -> Group {
 
 // ---- more rows
 
-// P2 of paper 01, 10–30, 20–40, 25–50, 90–10. Row 3 touches row 0, and has 10 ticks before row 1 and 15 before row 2.
+// P2, 10–30, 20–40, 25–50, 90–10. Row 3 touches row 0, and has 10 ticks before row 1 and 15 before row 2.
 fn p2(gap: u16, labels: &[u8]) -> bool {
     is_planned(tables::p2(gap, &[0, 0, 0, 0]), Ok(labels))
 }
 
-// 4–4, which sends all day, 0–2 and 6–8 in a round of 10 ticks. The last two have 4 ticks between them within the day and 2 over its end.
+// 4–4, which sends all day, 0–2 and 6–8 in a round of 10 ticks. The last two have 4 ticks between them within the day
+// and 2 over its end.
 fn all_day(gap: u16, mark: u8, labels: &[u8]) -> bool {
     is_planned(
         table_of(
@@ -201,7 +207,8 @@ fn all_day(gap: u16, mark: u8, labels: &[u8]) -> bool {
     )
 }
 
-// 0–2, 5–7 and 10 to `end` with this mark, in a round or a run of 12 ticks that is open all the time. There are 3 ticks before the second and before the third.
+// 0–2, 5–7 and 10 to `end` with this mark, in a round or a run of 12 ticks that is open all the time. There are 3 ticks
+// before the second and before the third.
 pub fn spaced(kind: Kind, end: u16, gap: u16, mark: u8, expected: Result<&[u8], u8>) -> bool {
     is_planned(
         table_of(
@@ -253,7 +260,8 @@ fn rows_64(kind: Kind, ticks: u16, labels: &[u8]) -> bool {
     )
 }
 
-// With 75 ticks each row has 600 between it and the next, in a round also over the end of the day, so that receiver 1 hears all. With 76 it has 599, and the receivers take turns.
+// With 75 ticks each row has 600 between it and the next, in a round also over the end of the day, so that receiver 1
+// hears all. With 76 it has 599, and the receivers take turns.
 fn longest(group: Group) -> Group {
     let turns = labels();
     group.with_cases(&[

@@ -1,11 +1,13 @@
 // Labels and working space after each refusal of the planner and after a plan: the table of P2 with one fault each.
-// Every call is judged with both filled with a pattern before it, and with more bytes than the planner needs (but for refusal 3).
+// Every call is judged with both filled with a pattern before it, and with more bytes than the planner needs (but for
+// refusal 3).
 use crate::tables::P2_STARTS;
 use table::Setting;
 use trial_calls::{LENT_BYTES, is_planned, is_planned_in, run, table_of};
 use trial_report::Group;
 
-// A call for P2 where row 2 may have another mark and row 3 another end, with so many places for labels and bytes of working space.
+// A call for P2 where row 2 may have another mark and row 3 another end, with so many places for labels and bytes of
+// working space.
 #[derive(Clone, Copy)]
 struct Call {
     ticks: u16,
@@ -77,8 +79,8 @@ fn untouched(group: Group) -> Group {
     ])
 }
 
-// P2, and with three rows that must be heard, which is refused 8.
-// A plan and refusal 8 clear the first 4,608 bytes and no others, however many are lent; refusal 8 leaves the labels as they were.
+// P2, and with three rows that must be heard, which is refused 8. A plan and refusal 8 clear the first 4,608 bytes and
+// no others, however many are lent; refusal 8 leaves the labels as they were.
 fn cleared(group: Group) -> Group {
     let mut g = group;
     for bytes in [LENT_BYTES, 4608, 4609, 16383, 16384] {

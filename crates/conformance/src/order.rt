@@ -46,7 +46,8 @@ fn window_first(gap: u16, number: u8) -> bool {
     )
 }
 
-// "1, 2, 3, 4, 5, then rows from 0, each for 6 and then 7, then 8", and 14 "after 5": a fault each, and the later ones with it.
+// The planner's order: 1, 2, 3, 4, 5, 14, then rows from 0 on, each for 6 and then for 7, then 8. A fault each, and the
+// later ones with it.
 fn planner_order(group: Group) -> Group {
     group.with_cases(&[
         faulty(faulty_run(1, 11, 601), 4607, 3),
@@ -75,7 +76,7 @@ fn taped(gap: u16, end: u16, mark: u8, labels: &[u8], number: u8) -> bool {
     )
 }
 
-// "1, 2, 4, 5, rows for 6 and 7, 9, 10", and 14 after 5.
+// The writer's order: 1, 2, 4, 5, 14, rows for 6 and 7, 9, 10.
 fn writer_order(group: Group) -> Group {
     group.with_cases(&[
         faulty_taped(faulty_run(1, 11, 601), 4),

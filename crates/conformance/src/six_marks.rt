@@ -1,4 +1,5 @@
-// Marks 0 to 5 (request 2 of paper 02): the examples of the bench table, each mark on a row alone in rounds and runs, and labels offered to the plan tape writer.
+// Marks 0 to 5 (docs/RULES.md, Marks): examples of three rows, each mark on a row alone in rounds and runs, and labels
+// offered to the plan tape writer.
 use crate::tables::{equal, three};
 use table::Setting;
 use trial_calls::{is_planned, is_taped, run, table_of};
@@ -57,7 +58,7 @@ fn both_open(group: Group) -> Group {
     g
 }
 
-// "p = q is a closed receiver": a row that may be heard by it alone is left out, one that must be has no plan.
+// A row that may be heard by the closed receiver alone is left out; one that must be has no plan.
 fn receiver_1_closed(group: Group) -> Group {
     let run = in_run(0, 100);
     group.with_cases(&[
@@ -82,7 +83,7 @@ fn receiver_2_closed(group: Group) -> Group {
     ])
 }
 
-// ---- the writer: "labels that use the wrong receiver are no plan"
+// ---- the writer: labels that use the wrong receiver are no plan
 
 // Row 3–4 of a round of 10 ticks with a mark and a label.
 fn offered(mark: u8, label: u8, expected: Result<&[u8], u8>) -> bool {
@@ -94,8 +95,8 @@ fn offered(mark: u8, label: u8, expected: Result<&[u8], u8>) -> bool {
     )
 }
 
-// A mark, and the labels that it allows. Where one is taken, the tape is that of any mark. Label 3 is no label of any mark; before labels are looked at, a mark
-// above 5 is refused.
+// A mark, and the labels that it allows. Where one is taken, the tape is that of any mark. Label 3 is no label of any
+// mark; before labels are looked at, a mark above 5 is refused.
 fn labels(group: Group, mark: u8, allowed: &[u8]) -> Group {
     let none = [0x10, 0, 10, 0x20, 1, 0x20, 2, 0x7F];
     let first = [0x10, 0, 10, 0x20, 1, 0x30, 0, 0, 3, 0, 4, 0x20, 2, 0x7F];

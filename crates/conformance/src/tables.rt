@@ -7,7 +7,7 @@ pub const P2_STARTS: [u16; 4] = [10, 20, 25, 90];
 
 const P2_ENDS: [u16; 4] = [30, 40, 50, 10];
 
-// P2 of the bench table, in a round of 100 ticks, with a gap and marks.
+// P2, in a round of 100 ticks, with a gap and marks.
 pub fn p2(gap: u16, marks: &[u8]) -> Table<'_> {
     table_of(Setting::round(100, gap), &P2_STARTS, &P2_ENDS, marks)
 }

@@ -1,5 +1,6 @@
-// The plan tape writer at the edges of papers 01 and 02: R 1, 2, 43,200 and 43,201, a gap of 600 and 601, and the tape of 64 heard rows, than which none is longer.
-// The bytes expected of it are written out here or made by this file's loops: no product code makes them.
+// The plan tape writer on both sides of its limits: R 1, 2, 43,200 and 43,201, a gap of 600 and 601, and the tape of 64
+// heard rows, than which none is longer. The bytes expected of it are written out here or made by this file's loops: no
+// product code makes them.
 use std::array::from_fn;
 use table::Setting;
 use trial_calls::{is_taped, open_all, table_of};
@@ -52,7 +53,8 @@ fn one_row(kind: Kind, ticks: u16, start: u16, end: u16, tape: &[u8]) -> bool {
     )
 }
 
-// A row of the last tick, whose number is 1 less than R and so is its low byte. It ends at 0 in a round and at R in a run.
+// A row of the last tick, whose number is 1 less than R and so is its low byte. It ends at 0 in a round and at R in a
+// run.
 fn last_tick(group: Group, ticks: u16, [high, low]: [u8; 2]) -> Group {
     let start = ticks.wrapping_sub(1);
     let before = low.wrapping_sub(1);
@@ -77,7 +79,7 @@ fn ticks(group: Group) -> Group {
     last_tick(g, 43200, [0xA8, 0xC0])
 }
 
-// "14, g above 600, looked at after 5", so that an R that is refused comes before it.
+// 14 for a gap above 600; an R that is refused comes before it.
 fn gaps(group: Group) -> Group {
     let mut g = taken(group, 2, 600, [0x00, 0x02]);
     g = taken(g, 43200, 600, [0xA8, 0xC0]);
@@ -87,8 +89,8 @@ fn gaps(group: Group) -> Group {
 }
 
 // ---- 64 heard rows
-// Row 63 starts at 0 and each row before it 600 ticks later, for 1,200 ticks; receivers 1 and 2 take turns from row 0 on.
-// So rows of one receiver touch, those of two overlap, and the LISTENs are in the opposite order of the rows.
+// Row 63 starts at 0 and each row before it 600 ticks later, for 1,200 ticks; receivers 1 and 2 take turns from row 0
+// on. So rows of one receiver touch, those of two overlap, and the LISTENs are in the opposite order of the rows.
 
 // The tick that lies so many after a row's start.
 fn tick_after(row: usize, ticks: u16) -> u16 {
@@ -131,7 +133,8 @@ fn rows_64(kind: Kind, gap: u16, bytes: usize, expected: Result<&[u8], u8>) -> b
     )
 }
 
-// It fits 392 bytes, and bytes after them are untouched; a buffer of 391 gives 10. With a gap the rows of one receiver are too close.
+// It fits 392 bytes, and bytes after them are untouched; a buffer of 391 gives 10. With a gap the rows of one receiver
+// are too close.
 fn rows(group: Group) -> Group {
     let round = tape_of_64(0x10);
     let run = tape_of_64(0x11);

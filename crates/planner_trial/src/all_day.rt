@@ -1,5 +1,5 @@
-// In how many rounds it decides the answer that the window of a row that sends all day covers every tick (request 3 of paper 02):
-// what the brute force finds is another answer where it covers fewer.
+// In how many rounds it decides the answer that the window of a row that sends all day covers every tick: what the
+// brute force finds is another answer where it covers fewer.
 use crate::drawn::Table;
 use brute_force::plans::{Found, changed};
 use brute_force::windows::{Row, after, round_set};
@@ -13,7 +13,8 @@ pub struct EveryTick {
     pub not_others: u32,
 }
 
-// Whether the answer would be another one if the windows that send all day covered the sets of ticks that are given for their starts.
+// Whether the answer would be another one if the windows that send all day covered the sets of ticks that are given for
+// their starts.
 fn decides<F: Fn(u16) -> u64>(t: Table, right: Found, set_of: F) -> bool
     requires { F.IsAlwaysCallable set_of }
 {

@@ -27,7 +27,8 @@ pub struct Tally {
     pub differ: u32,
 }
 
-// The planner's answer, whole, is what the brute force finds, refusal 8 if that is no plan: from as many bytes of working space as it needs and from more.
+// The planner's answer, whole, is what the brute force finds, refusal 8 if that is no plan: from as many bytes of
+// working space as it needs and from more.
 fn is_found(t: Table, found: Found) -> bool {
     let labels = found.labels();
     let expected = match found.plan {
@@ -43,7 +44,7 @@ fn crosses(w: Window) -> bool {
     w.end != 0 && w.end <= w.start
 }
 
-// How many heard rows have a window that meets a test. `tracks_trial` counts over two lists, where this has one of rows: one function of both would take an iterator and its item's type.
+// How many heard rows have a window that meets a test.
 fn heard<F: Fn(Window) -> bool>(t: &Table, labels: &[u8; 8], test: F) -> usize
     requires { F.IsAlwaysCallable test }
 {
@@ -87,7 +88,7 @@ impl Tally {
     }
 }
 
-// All tables are compared. `tracks_trial` has the same loop: one function of both would take two types and two closures, for eight lines.
+// All tables are compared.
 pub fn tables() -> Tally {
     let mut tally = Tally::default();
     let mut state = 149;

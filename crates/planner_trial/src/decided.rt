@@ -1,4 +1,5 @@
-// In how many rounds, or runs, a mark or the gap decides the answer. A mark does where the brute force finds another answer if the rows of that mark have another mark.
+// In how many rounds, or runs, a mark or the gap decides the answer. A mark does where the brute force finds another
+// answer if the rows of that mark have another mark.
 use crate::drawn::Table;
 use crate::gap::Gaps;
 use brute_force::plans::{Found, changed};

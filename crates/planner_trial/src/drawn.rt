@@ -4,7 +4,8 @@ use brute_force::random::{below_any, eight_after, from};
 use brute_force::windows::{Day, Row};
 use brute_force::{plans, random};
 
-// A table of the brute force's types. Only the first `count` rows count; the array has a place for each that there may be, since nothing is allocated.
+// A table of the brute force's types. Only the first `count` rows count; the array has a place for each that there may
+// be, since nothing is allocated.
 #[derive(Clone, Copy)]
 pub struct Table {
     pub day: Day,
@@ -37,7 +38,8 @@ fn draw_rows(days: Days, state: u64) -> ([Row; 8], u64) {
     (rows, c[7])
 }
 
-// A receiver opens in the first part of the day and closes up to as much before the day's end, or at once for one receiver in 16.
+// A receiver opens in the first part of the day and closes up to as much before the day's end, or at once for one
+// receiver in 16.
 fn hours_of(ticks: u16, a: u64, b: u64) -> [u16; 2] {
     let part = ticks / 3 + 1;
     let opening = below_any(a, part);
@@ -52,7 +54,8 @@ fn draw_hours(ticks: u16, state: u64) -> [[u16; 2]; 2] {
     [hours_of(ticks, a, c), hours_of(ticks, b, d)]
 }
 
-// The gap: 0 for one table in four, R or more for one in eight, and for the others from 1 to a third of R and 1. Which of these it is lies in the lower half of the state.
+// The gap: 0 for one table in four, R or more for one in eight, and for the others from 1 to a third of R and 1. Which
+// of these it is lies in the lower half of the state.
 fn gap(ticks: u16, state: u64) -> u16 {
     match state % 8 {
         0..=1 => 0,
@@ -61,7 +64,8 @@ fn gap(ticks: u16, state: u64) -> u16 {
     }
 }
 
-// A table of at most 7 rows on 2 to 24 ticks, a run one time in three, the longest of its windows drawn first, so that windows of all lengths come up.
+// A table of at most 7 rows on 2 to 24 ticks, a run one time in three, the longest of its windows drawn first, so that
+// windows of all lengths come up.
 pub fn draw(state: u64) -> Table {
     let [a, b, c, d, ..] = eight_after(state);
     let kind = kind_by(below_any(a, 3));

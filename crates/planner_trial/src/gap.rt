@@ -1,4 +1,5 @@
-// In how many tables the gap decides the answer (request 4 of paper 02): what the brute force finds is another answer with another gap, or where it is counted otherwise.
+// In how many tables the gap decides the answer: what the brute force finds is another answer with another gap, or
+// where it is counted otherwise.
 use crate::drawn::Table;
 use brute_force::plans::{Found, changed};
 use brute_force::windows::{Day, Kind};
@@ -11,9 +12,10 @@ pub struct Gaps {
     // another answer with a gap of 0, and a plan with it where there is none
     pub not_0: u32,
     pub no_plan: u32,
-    // another answer with one tick more: "fewer than g" is too close, and not g
+    // another answer with one tick more: fewer than g are too close, and not g
     pub not_more: u32,
-    // another answer where a round is counted like a run, which has one side only, and a run like a round, over the end of the day
+    // another answer where a round is counted like a run, which has one side only, and a run like a round, over the end
+    // of the day
     pub not_other: u32,
 }
 

@@ -4,7 +4,6 @@ use table::Setting;
 use trial_calls::{first, setting_of, table_of};
 
 // The product's setting, and arrays, since nothing is allocated: it is lent the first `count` places of each as a list.
-// `RowLists` of `candidates_trial` has 66 places, and lends more of them than there are rows.
 #[derive(Clone, Copy)]
 pub struct Lent {
     setting: Setting,

@@ -1,4 +1,5 @@
-// Compares the planner's answers for small random tables, and the plan tape writer's for labels of them, with those of the brute force, and prints what there was among them.
+// Compares the planner's answers for small random tables, and the plan tape writer's for labels of them, with those of
+// the brute force, and prints what there was among them.
 #![tactic(auto)]
 
 mod all_day;
@@ -29,7 +30,8 @@ fn print_decided(rt: &impl Print, rounds: &[u32; 8], runs: &[u32; 8]) -> io::Res
     Ok(())
 }
 
-// The rounds whose answer it decided that a window that sends all day covers every tick: where it covers fewer it is another answer.
+// The rounds whose answer it decided that a window that sends all day covers every tick: where it covers fewer it is
+// another answer.
 fn print_every_tick(rt: &impl Print, a: EveryTick) -> io::Result<()> {
     println!(rt; "  decided by every tick, not none: rounds {}", a.not_none)?;
     println!(rt;
@@ -42,7 +44,8 @@ fn print_every_tick(rt: &impl Print, a: EveryTick) -> io::Result<()> {
     )
 }
 
-// The tables whose answer the gap decided: with another gap, or counted as in the other kind of day, it is another answer.
+// The tables whose answer the gap decided: with another gap, or counted as in the other kind of day, it is another
+// answer.
 fn print_gaps(rt: &impl Print, rounds: Gaps, runs: Gaps) -> io::Result<()> {
     println!(rt;
         "  decided by the gap, not 0: rounds {}, runs {}",

@@ -1,11 +1,13 @@
-// Labels offered to the plan tape writer with no room for a tape: it gives 10 where the brute force says that they are a plan, and 9 where it says that they are not.
+// Labels offered to the plan tape writer with no room for a tape: it gives 10 where the brute force says that they are
+// a plan, and 9 where it says that they are not.
 use crate::drawn::Table;
 use brute_force::plans;
 use brute_force::plans::Found;
 use trial_calls::{first, is_taped};
 use trial_report::more;
 
-// How many lists of labels were offered, how many of them are a plan, are one with a gap of 0 alone, are none with any gap, and how many answers differ.
+// How many lists of labels were offered, how many of them are a plan, are one with a gap of 0 alone, are none with any
+// gap, and how many answers differ.
 #[derive(Clone, Copy, Default)]
 pub struct Offered {
     pub lists: u32,
@@ -27,14 +29,14 @@ impl Offered {
     fn with_list(self, t: Table, list: [u8; 8]) -> Offered {
         let labels = first(&list, t.count);
         let plan = t.is_plan(labels);
-        let former = t.with_gap(0).is_plan(labels);
+        let without = t.with_gap(0).is_plan(labels);
         let number = if plan { 10 } else { 9 };
         let right = is_taped(t.lent().table(), labels, 0, Err(number));
         Offered {
             lists: more(self.lists, true),
             plans: more(self.plans, plan),
-            too_close: more(self.too_close, former != plan),
-            others: more(self.others, !former),
+            too_close: more(self.too_close, without != plan),
+            others: more(self.others, !without),
             differ: more(self.differ, !right),
         }
     }

@@ -22,7 +22,8 @@ impl Table {
         self.day.sets_of(&self.rows)
     }
 
-    // What the rules say of each row where windows cover these sets of ticks and the gap is counted as on a day. Neither need be the table's.
+    // What the rules say of each row where windows cover these sets of ticks and the gap is counted as on a day.
+    // Neither need be the table's.
     fn rules(self, sets: &[u64; 8], day: Day) -> [Rules; 8] {
         let clashes = clashes::with_gap(&clashes::overlaps(sets), day, &self.rows);
         let permissions = windows::permissions(self.day.kind, &self.rows, self.hours);

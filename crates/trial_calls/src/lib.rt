@@ -1,6 +1,7 @@
-// Calls of the planner and of the plan tape writer, each judged whole: the refusal's number, the count, every place of the list that is written,
-// every byte of the working space. Product code has a part in each call: a table is of its own types, and `u8::from` gives the number of its refusal.
-// What is expected of a call is what it writes, or the papers' number of its refusal: the product's names have no part in it.
+// Calls of the planner and of the plan tape writer, each judged whole: the refusal's number, the count, every place of
+// the list that is written, every byte of the working space. Product code has a part in each call: a table is of its
+// own types, and `u8::from` gives the number of its refusal. What is expected of a call is what it writes, or the
+// number of its refusal: the product's names have no part in it.
 #![tactic(auto)]
 
 ghost use Rattle.std.specs.Prelude.{◌≡◌, true, ◌↔◌, take, replicate};
@@ -20,7 +21,8 @@ use window::{Kind, Row};
 // What labels, working space and tape buffer hold before a call.
 pub const BEFORE: u8 = 90;
 
-// The working space that a case is lent, if it does not say otherwise: 100 bytes more than the 16,384 that were cleared before request 9, so that a call which clears those is seen.
+// The working space that a case is lent, if it does not say otherwise: far more than a call clears, so that one which
+// clears more is seen.
 pub const LENT_BYTES: usize = 16484;
 
 // ---- what a call is lent
@@ -31,16 +33,6 @@ pub fn first<T>(list: &[T], n: usize) -> &[T]
     ensures { result.now ≡ take n list.now }
 {
     if n <= list.len() { &list[..n] } else { list }
-}
-
-// The bytes of working space by a number that was drawn: one too few, just enough, one less than was asked for before request 9, and otherwise more.
-pub fn lent_bytes(drawn: u16) -> usize {
-    match drawn {
-        0 => 4607,
-        1 => 4608,
-        2 => 16383,
-        _ => LENT_BYTES,
-    }
 }
 
 pub fn row(start: u16, end: u16, mark: u8) -> Row {
@@ -71,7 +63,7 @@ pub fn open_all(kind: Kind, ticks: u16, gap: u16) -> Setting
     }
 }
 
-// The product's kind. No `From`: neither kind is of this crate, and the brute force and `window` may not know each other. `plan_tape_made::gaps::kind_of` goes the other way.
+// The product's kind.
 fn kind_of(kind: windows::Kind) -> Kind
     ensures { result ≡ kind_of kind }
 {
@@ -150,7 +142,7 @@ pub fn is_written(list: &[u8], written: &[u8]) -> bool
     are_written(list, written, BEFORE)
 }
 
-// How many bytes of the working space a call clears: 8 "clears the same" as a plan, and no other refusal does.
+// How many bytes of the working space a call clears: 8 clears as many as a plan, and no other refusal clears any.
 fn cleared(refusal: Option<u8>) -> usize
     ensures { result ≡ cleared refusal }
 {
@@ -168,7 +160,7 @@ pub fn is_left(space: &[u8], refusal: Option<u8>) -> bool
     is_written(space, first(&zeros, cleared(refusal)))
 }
 
-// How many labels are 1 or 2. The trials' own count: `labels::count_heard` is of the product.
+// How many labels are 1 or 2, counted here: the product has no part in it.
 pub fn heard(labels: &[u8]) -> usize {
     labels
         .iter()
@@ -183,7 +175,8 @@ pub fn is_planned(table: Table, expected: Result<&[u8], u8>) -> bool {
     is_planned_in(table, table.rows.len(), LENT_BYTES, expected)
 }
 
-// The same, lent so many places for labels and so many bytes of working space: those that are not lent show a step beyond.
+// The same, lent so many places for labels and so many bytes of working space: those that are not lent show a step
+// beyond.
 pub fn is_planned_in(
     table: Table,
     places: usize,

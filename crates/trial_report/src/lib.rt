@@ -14,38 +14,13 @@ pub fn more(count: u32, fact: bool) -> u32
     if fact { count.wrapping_add(1) } else { count }
 }
 
-// How many calls were refused by each number of the papers.
-#[derive(Clone, Copy, Default)]
-pub struct Refusals {
-    counts: [u32; 17],
-}
-
-impl Refusals {
-    // One call more, refused by a number or accepted.
-    pub fn with_call(self, refusal: Option<u8>) -> Refusals {
-        let number = refusal.map(usize::from);
-        Refusals {
-            counts: std::array::from_fn(|i| more(self.counts[i], number == Some(i))),
-        }
-    }
-
-    pub fn by(self, number: usize) -> u32 {
-        self.counts.get(number).copied().unwrap_or(0)
-    }
-}
-
 // A line of words and a number.
 pub fn print(rt: &impl Print, words: &str, n: u32) -> io::Result<()> {
     println!(rt; "{words}{n}")
 }
 
-// A line of words and two numbers.
-pub fn print_two(rt: &impl Print, words: &str, n: u32, words2: &str, n2: u32) -> io::Result<()> {
-    println!(rt; "{words}{n}{words2}{n2}")
-}
-
-// The cases of a group that were run, and how many of them differ from what is right. A function of cases takes the group so far and gives it with its own, so that
-// the functions `all` of the programs are lists of calls: an array of functions would be no shorter.
+// The cases of a group that were run, and how many of them differ from what is right. A function of cases takes the
+// group so far and gives it with its own.
 #[derive(Clone, Copy, Default)]
 pub struct Group {
     pub cases: u32,

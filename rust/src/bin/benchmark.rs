@@ -1,11 +1,15 @@
-//! The benchmark: `cargo run --release --bin benchmark` prints every table of docs/BENCHMARKS.md. Times are processor time of this thread, or of the child process for
-//! glpsol, so that other work on the machine counts as little as possible.
+//! The benchmark: `cargo run --release --bin benchmark` prints every table of docs/BENCHMARKS.md. Times are processor
+//! time of this thread, or of the child process for glpsol, so that other work on the machine counts as little as
+//! possible.
 
 use hubplan::candidates::{try_lists, Candidates, Tried};
 use hubplan::distance::{Remainder, Sums};
 use hubplan::held::{HeldTable, Row};
 use hubplan::tables::{benchmark_mixtures, benchmark_tables, candidate_tables, deep, in_turn, Planner, Table, DAY};
-use hubplan::{first_free, former, player_port, port, Kind, Player, Refusal, Stepped, MAX_CANDIDATES, PLAN_TAPE_BYTES, SPACE_BYTES};
+use hubplan::{
+    first_free, label_by_label, player_port, port, Kind, Player, Refusal, Stepped, MAX_CANDIDATES, PLAN_TAPE_BYTES,
+    SPACE_BYTES,
+};
 use std::fmt::Write as _;
 use std::hint::black_box;
 use std::path::{Path, PathBuf};
@@ -32,7 +36,10 @@ extern "C" {
 
 /// Processor time of this thread in nanoseconds.
 fn thread_time() -> f64 {
-    let mut time = Timespec { seconds: 0, nanoseconds: 0 };
+    let mut time = Timespec {
+        seconds: 0,
+        nanoseconds: 0,
+    };
     unsafe { clock_gettime(3, &mut time) };
     time.seconds as f64 * 1e9 + time.nanoseconds as f64
 }
@@ -58,7 +65,12 @@ struct Spread {
 
 impl Spread {
     fn words(self) -> String {
-        format!("{} ({} to {})", micros(self.median), micros(self.low), micros(self.high))
+        format!(
+            "{} ({} to {})",
+            micros(self.median),
+            micros(self.low),
+            micros(self.high)
+        )
     }
 }
 
@@ -105,8 +117,8 @@ fn measure_each(calls: &mut [&mut dyn FnMut()], counts: &[u32], rounds: usize) -
     times.into_iter().map(spread).collect()
 }
 
-/// The planner, the hand port and the former one.
-const PLANNERS: [Planner; 3] = [hubplan::plan, port::plan, former::plan];
+/// The planner, the hand port, and the port that tries one label after another.
+const PLANNERS: [Planner; 3] = [hubplan::plan, port::plan, label_by_label::plan];
 
 /// The times of some planners for a table; they must agree.
 fn planners<const N: usize>(
@@ -144,12 +156,21 @@ fn micros(time: f64) -> String {
     }
 }
 
-/// The most rows that can be heard, as an integer program: a variable for each row and receiver; at each window's start at most one of the windows over it, each with the gap
-/// after it, on each receiver (two windows are too close exactly if one, with the gap after it, covers the other's start); a must row's two add up to 1, and a receiver that
-/// hours or mark exclude has 0.
+/// The most rows that can be heard, as an integer program: a variable for each row and receiver; at each window's start
+/// at most one of the windows over it, each with the gap after it, on each receiver (two windows are too close exactly
+/// if one, with the gap after it, covers the other's start); a must row's two add up to 1, and a receiver that hours or
+/// mark exclude has 0.
 fn integer_program(table: &Table) -> String {
     let rows = table.rows();
-    let reaches = |i: usize, tick: u16| first_free::reaches(table.kind, table.ticks, table.gap, [table.starts[i], table.ends[i]], tick);
+    let reaches = |i: usize, tick: u16| {
+        first_free::reaches(
+            table.kind,
+            table.ticks,
+            table.gap,
+            [table.starts[i], table.ends[i]],
+            tick,
+        )
+    };
     let name = |i: usize, receiver: usize| format!("x{i}_{receiver}");
     let sum = |names: Vec<String>| names.join(" + ");
     let mut text = String::from("Maximize\n heard: ");
@@ -160,13 +181,18 @@ fn integer_program(table: &Table) -> String {
         let relation = if port::allows(table.marks[i], 0) { "<=" } else { "=" };
         writeln!(text, " row{i}: {} {relation} 1", sum(vec![name(i, 1), name(i, 2)])).unwrap();
         for receiver in [1, 2] {
-            let over: Vec<String> = (0..rows).filter(|&j| reaches(j, table.starts[i])).map(|j| name(j, receiver)).collect();
+            let over: Vec<String> = (0..rows)
+                .filter(|&j| reaches(j, table.starts[i]))
+                .map(|j| name(j, receiver))
+                .collect();
             if over.len() > 1 {
                 writeln!(text, " tick{i}_{receiver}: {} <= 1", over.join("\n + ")).unwrap();
             }
             let open = match table.kind {
                 Kind::Round => true,
-                Kind::Run(hours) => hours[receiver - 1][0] <= table.starts[i] && table.ends[i] <= hours[receiver - 1][1],
+                Kind::Run(hours) => {
+                    hours[receiver - 1][0] <= table.starts[i] && table.ends[i] <= hours[receiver - 1][1]
+                }
             };
             if !open || !port::allows(table.marks[i], receiver as u8) {
                 writeln!(text, " shut{i}_{receiver}: {} = 0", name(i, receiver)).unwrap();
@@ -209,7 +235,11 @@ fn glpsol_maximum(file: &Path) -> Option<usize> {
     assert!(status.expect("glpsol runs").success());
     let text = fs::read_to_string(&solution).expect("glpsol wrote its solution");
     // s mip ROWS COLUMNS STATUS VALUE
-    let line: Vec<&str> = text.lines().find(|line| line.starts_with("s mip"))?.split_whitespace().collect();
+    let line: Vec<&str> = text
+        .lines()
+        .find(|line| line.starts_with("s mip"))?
+        .split_whitespace()
+        .collect();
     if line[4] == "o" {
         line[5].parse().ok()
     } else {
@@ -217,13 +247,14 @@ fn glpsol_maximum(file: &Path) -> Option<usize> {
     }
 }
 
-/// The old planner's time, and how many rows fewer it hears or that it finds no plan.
-fn old_planner(table: &Table, answer: Result<usize, Refusal>) -> (Spread, String) {
+/// The time of placing each row on the first receiver that is free, and how many rows fewer that hears or that it finds
+/// no plan.
+fn by_first_free(table: &Table, answer: Result<usize, Refusal>) -> (Spread, String) {
     let mut labels = vec![0; table.rows()];
-    let mut old = Ok(0);
+    let mut placed = Ok(0);
     let mut call = || {
         let table = black_box(table);
-        old = black_box(first_free::plan(
+        placed = black_box(first_free::plan(
             table.kind,
             table.ticks,
             table.gap,
@@ -234,17 +265,22 @@ fn old_planner(table: &Table, answer: Result<usize, Refusal>) -> (Spread, String
         ));
     };
     let time = measure(&mut [&mut call], 41)[0];
-    let fewer = match (answer, old) {
-        (Ok(count), Ok(old)) => (count - old).to_string(),
-        (_, old) => words(old),
+    let fewer = match (answer, placed) {
+        (Ok(count), Ok(heard)) => (count - heard).to_string(),
+        (_, placed) => words(placed),
     };
     (time, fewer)
 }
 
-/// The time of glpsol for one maximum of the table, and the same without the time that it needs for a program of one variable, run in turn.
+/// The time of glpsol for one maximum of the table, and the same without the time that it needs for a program of one
+/// variable, run in turn.
 fn solver(folder: &Path, table: &Table, answer: Result<usize, Refusal>) -> (Spread, f64) {
     let (least, file) = (folder.join("least.lp"), folder.join("table.lp"));
-    fs::write(&least, "Maximize\n heard: x\nSubject To\n row: x <= 1\nBinary\n x\nEnd\n").unwrap();
+    fs::write(
+        &least,
+        "Maximize\n heard: x\nSubject To\n row: x <= 1\nBinary\n x\nEnd\n",
+    )
+    .unwrap();
     fs::write(&file, integer_program(table)).unwrap();
     assert_eq!(glpsol_maximum(&file), answer.ok(), "glpsol's maximum");
     let pairs: Vec<(f64, f64)> = (0..31).map(|_| (glpsol_once(&least), glpsol_once(&file))).collect();
@@ -256,21 +292,27 @@ fn solver(folder: &Path, table: &Table, answer: Result<usize, Refusal>) -> (Spre
 fn tables_of_64_rows(folder: &Path) {
     let version = glpsol_version();
     println!("## Tables of 64 rows\n");
-    println!("One whole plan in microseconds of processor time: the median of repeated runs (lower to upper quartile).\n");
     println!(
-        "| table | windows over a tick | heard | planner | hand port | planner / port | former | planner / former | old planner | it hears fewer by \
+        "One whole plan in microseconds of processor time: the median of repeated runs (lower to upper quartile).\n"
+    );
+    println!(
+        "| table | windows over a tick | heard | planner | hand port | planner / port | label by label | planner / label by label | first free | it hears fewer by \
          | glpsol, one maximum | planner / glpsol | glpsol without its start | planner / that |"
     );
     println!("|---|---|---|---|---|---|---|---|---|---|---|---|---|---|");
     for (name, table) in benchmark_tables() {
-        let ([proved, ported, former], answer) = planners(&table, PLANNERS, |calls| measure(calls, 41));
-        let (old, fewer) = old_planner(&table, answer);
+        let ([proved, ported, by_label], answer) = planners(&table, PLANNERS, |calls| measure(calls, 41));
+        let (placed, fewer) = by_first_free(&table, answer);
         let solved = match version {
             None => "not installed | | |".to_string(),
             Some(_) => {
                 let (whole, solving) = solver(folder, &table, answer);
                 let (of_whole, of_solving) = (proved.median / whole.median, proved.median / solving);
-                format!("{} | {of_whole:.3} | {} | {of_solving:.3}", whole.words(), micros(solving))
+                format!(
+                    "{} | {of_whole:.3} | {} | {of_solving:.3}",
+                    whole.words(),
+                    micros(solving)
+                )
             }
         };
         let (low, high) = table.depth();
@@ -280,9 +322,9 @@ fn tables_of_64_rows(folder: &Path) {
             proved.words(),
             ported.words(),
             proved.median / ported.median,
-            micros(former.median),
-            proved.median / former.median,
-            micros(old.median),
+            micros(by_label.median),
+            proved.median / by_label.median,
+            micros(placed.median),
         );
     }
     match version {
@@ -308,16 +350,19 @@ fn mixtures() {
         "One whole plan of each of {} random tables of 64 rows, of which {planned} have a plan, in microseconds of processor time: the median of three plans of each table.\n",
         tables.len()
     );
-    println!("| | planner | hand port | planner / port | former | planner / former |");
+    println!("| | planner | hand port | planner / port | label by label | planner / label by label |");
     println!("|---|---|---|---|---|---|");
-    for (what, [proved, ported, former]) in [("mean", sums.map(|sum: f64| sum / tables.len() as f64)), ("worst", worst)] {
+    for (what, [proved, ported, by_label]) in [
+        ("mean", sums.map(|sum: f64| sum / tables.len() as f64)),
+        ("worst", worst),
+    ] {
         println!(
             "| {what} | {} | {} | {:.2} | {} | {:.3} |",
             micros(proved),
             micros(ported),
             proved / ported,
-            micros(former),
-            proved / former
+            micros(by_label),
+            proved / by_label
         );
     }
 }
@@ -334,7 +379,8 @@ fn growth() {
             let times: Vec<(f64, f64)> = (0..5)
                 .map(|seed| {
                     let table = deep(rows, low, high, 900 + seed);
-                    let ([proved, ported], _) = planners(&table, [hubplan::plan, port::plan], |calls| measure(calls, 11));
+                    let ([proved, ported], _) =
+                        planners(&table, [hubplan::plan, port::plan], |calls| measure(calls, 11));
                     (proved.median, proved.median / ported.median)
                 })
                 .collect();
@@ -358,7 +404,10 @@ fn counted(folder: &Path, words: &[&str], function: &str) -> Option<u64> {
     let output = Command::new("valgrind")
         .arg("--tool=callgrind")
         .arg(format!("--toggle-collect={function}"))
-        .arg(format!("--callgrind-out-file={}", folder.join("callgrind.out").display()))
+        .arg(format!(
+            "--callgrind-out-file={}",
+            folder.join("callgrind.out").display()
+        ))
         .arg(env::current_exe().ok()?)
         .args(words)
         .output()
@@ -390,7 +439,10 @@ fn instructions(folder: &Path) {
         let proved = counted(folder, &["one", &number, "planner"], "hub_plan_round");
         let ported = counted(folder, &["one", &number, "port"], "hubplan::port::plan_by");
         match (proved, ported) {
-            (Some(proved), Some(ported)) => println!("| {name} | {proved} | {ported} | {:.2} |", proved as f64 / ported as f64),
+            (Some(proved), Some(ported)) => println!(
+                "| {name} | {proved} | {ported} | {:.2} |",
+                proved as f64 / ported as f64
+            ),
             _ => println!("| {name} | not counted | | |"),
         }
     }
@@ -422,7 +474,10 @@ fn one_start(start: Start, tape: &[u8]) {
 
 fn check_day(tape: &[u8]) {
     for tick in 0..DAY as u16 {
-        assert_eq!(hubplan::step(tape, Player { tick }), player_port::step(tape, Player { tick }));
+        assert_eq!(
+            hubplan::step(tape, Player { tick }),
+            player_port::step(tape, Player { tick })
+        );
     }
     assert_eq!(hubplan::start(tape, 0), player_port::start(tape, 0));
 }
@@ -434,7 +489,11 @@ fn line_of_two(name: &str, times: &[Spread], counts: [Option<u64>; 2]) {
         _ => "not counted | |".to_string(),
     };
     let ratio = times[0].median / times[1].median;
-    println!("| {name} | {} | {} | {ratio:.2} | {instructions} |", times[0].words(), times[1].words());
+    println!(
+        "| {name} | {} | {} | {ratio:.2} | {instructions} |",
+        times[0].words(),
+        times[1].words()
+    );
 }
 
 fn players(folder: &Path) {
@@ -447,12 +506,14 @@ fn players(folder: &Path) {
     let mut proved = || one_day(hubplan::step, &tape);
     let mut ported = || one_day(player_port::step, &tape);
     let steps = measure(&mut [&mut proved, &mut ported], 81);
-    let counts = [("player", "hub_player_step"), ("port", "hubplan::player_port::step_by")].map(|(who, name)| counted(folder, &["day", who], name));
+    let counts = [("player", "hub_player_step"), ("port", "hubplan::player_port::step_by")]
+        .map(|(who, name)| counted(folder, &["day", who], name));
     line_of_two("a day of 43,200 steps", &steps, counts);
     let mut proved = || one_start(hubplan::start, &tape);
     let mut ported = || one_start(player_port::start, &tape);
     let starts = measure(&mut [&mut proved, &mut ported], 81);
-    let counts = [("player", "hub_player_start"), ("port", "hubplan::player_port::start")].map(|(who, name)| counted(folder, &["start", who], name));
+    let counts = [("player", "hub_player_start"), ("port", "hubplan::player_port::start")]
+        .map(|(who, name)| counted(folder, &["start", who], name));
     line_of_two("a start", &starts, counts);
     let of_step = |time: Spread| time.median / DAY as f64;
     println!(
@@ -462,7 +523,7 @@ fn players(folder: &Path) {
     );
 }
 
-/// The hand ports with the remainder beside the same with sums (request 6 of paper 02); they must agree.
+/// The hand ports with the remainder beside the same with sums; they must agree.
 fn distances(folder: &Path) {
     println!("\n## Distance with a remainder\n");
     println!(
@@ -474,7 +535,10 @@ fn distances(folder: &Path) {
     let tape = player_tape();
     for tick in 0..DAY as u16 {
         let told = |step: Step| step(&tape, Player { tick });
-        assert_eq!(told(player_port::step_by::<Remainder>), told(player_port::step_by::<Sums>));
+        assert_eq!(
+            told(player_port::step_by::<Remainder>),
+            told(player_port::step_by::<Sums>)
+        );
     }
     let mut remainder = || one_day(player_port::step_by::<Remainder>, &tape);
     let mut sums = || one_day(player_port::step_by::<Sums>, &tape);
@@ -492,7 +556,9 @@ fn distances(folder: &Path) {
 
 /// The port's time for a table, with the remainder and with sums.
 fn ports(table: &Table) -> Vec<Spread> {
-    let plan = |planner: Planner, labels: &mut [u8], space: &mut [u8]| black_box(black_box(table).plan(planner, labels, space));
+    let plan = |planner: Planner, labels: &mut [u8], space: &mut [u8]| {
+        black_box(black_box(table).plan(planner, labels, space))
+    };
     let (mut labels, mut space) = (vec![0; table.rows()], vec![0; SPACE_BYTES]);
     let (mut labels2, mut space2) = (labels.clone(), space.clone());
     let answer = plan(port::plan_by::<Remainder>, &mut labels, &mut space);
@@ -537,7 +603,8 @@ fn table_of(held: &HeldTable) -> Table {
 
 type Change<'a> = &'a dyn Fn(&mut HeldTable, &mut [u8]) -> Result<usize, Refusal>;
 
-/// A line of the table: the time of a change, made of a copy each time, and those of the planner and the port for the whole table that is held then. The plans must agree.
+/// A line of the table: the time of a change, made of a copy each time, and those of the planner and the port for the
+/// whole table that is held then. The plans must agree.
 fn held_line(name: &str, what: &str, held: &HeldTable, change: Change) {
     let mut space = vec![0; SPACE_BYTES];
     let mut changed = held.clone();
@@ -579,7 +646,9 @@ fn held_tables() {
     println!("| table | change | held table | planner | held table / planner | hand port | held table / port |");
     println!("|---|---|---|---|---|---|---|");
     for (name, table) in benchmark_tables() {
-        let has_plan = table.plan(hubplan::plan, &mut [0; 64], &mut vec![0; SPACE_BYTES]).is_ok();
+        let has_plan = table
+            .plan(hubplan::plan, &mut [0; 64], &mut vec![0; SPACE_BYTES])
+            .is_ok();
         if table.kind != Kind::Round || !has_plan {
             continue;
         }
@@ -606,7 +675,9 @@ const NO_ANSWERS: Answers = Answers {
 
 /// Tries the rows of one table as candidates for another, in one call.
 fn try_candidates(table: &Table, candidates: &Table, answers: &mut Answers, space: &mut [u8]) -> Tried {
-    let Table { starts, ends, marks, .. } = candidates;
+    let Table {
+        starts, ends, marks, ..
+    } = candidates;
     try_lists(
         table.kind,
         table.ticks,
@@ -642,7 +713,8 @@ fn plan_each(planner: Planner, tables: &[Table], answers: &mut Answers, space: &
     }
 }
 
-/// A line of the table: the time of trying 64 candidates, and those of the planner and the port for the 64 longer tables. The answers must agree.
+/// A line of the table: the time of trying 64 candidates, and those of the planner and the port for the 64 longer
+/// tables. The answers must agree.
 fn candidates_line(name: &str, table: &Table, candidates: &Table) {
     let longer = longer_tables(table, candidates);
     let [mut answers, mut planned, mut ported] = [NO_ANSWERS; 3];
@@ -650,7 +722,13 @@ fn candidates_line(name: &str, table: &Table, candidates: &Table) {
     let [try_space, plan_space, port_space] = &mut space;
     let mut try_call = || {
         let tried = try_candidates(black_box(table), black_box(candidates), &mut answers, try_space);
-        assert_eq!(black_box(tried), Tried { refusal: None, rows: 127 });
+        assert_eq!(
+            black_box(tried),
+            Tried {
+                refusal: None,
+                rows: 127
+            }
+        );
     };
     let mut plan_call = || plan_each(hubplan::plan, &longer, &mut planned, plan_space);
     let mut port_call = || plan_each(port::plan, &longer, &mut ported, port_space);
@@ -703,7 +781,11 @@ fn candidates(folder: &Path) {
         match functions.map(|(who, function)| counted(folder, &["tried", &number, who], function)) {
             [Some(call), Some(plans), Some(port)] => {
                 let of = |other: u64| call as f64 / other as f64;
-                println!("| {name} | {call} | {plans} | {:.2} | {port} | {:.2} |", of(plans), of(port));
+                println!(
+                    "| {name} | {call} | {plans} | {:.2} | {port} | {:.2} |",
+                    of(plans),
+                    of(port)
+                );
             }
             _ => println!("| {name} | not counted | | | | |"),
         }
@@ -716,7 +798,9 @@ fn main() {
     match words[..] {
         ["one", index, "planner"] => return one_plan(index.parse().expect("a table's number"), hubplan::plan),
         ["one", index, "port"] => return one_plan(index.parse().expect("a table's number"), port::plan),
-        ["one", index, "remainder"] => return one_plan(index.parse().expect("a table's number"), port::plan_by::<Remainder>),
+        ["one", index, "remainder"] => {
+            return one_plan(index.parse().expect("a table's number"), port::plan_by::<Remainder>)
+        }
         ["day", "player"] => return one_day(hubplan::step, &player_tape()),
         ["day", "port"] => return one_day(player_port::step, &player_tape()),
         ["day", "remainder"] => return one_day(player_port::step_by::<Remainder>, &player_tape()),

@@ -1,7 +1,8 @@
-//! Candidates against request 7 written down independently (tests/papers/candidates.rs): each call compared whole, with tables of any size, damaged ones too.
+//! Candidates against their rules written down independently (rules/candidates.rs): each call compared whole, with
+//! tables of any size, damaged ones too.
 
-use super::papers::candidates::{must, with, Given, Lent, RIGHT};
-use super::papers::{heard, misread, plan_by_trying, RULES};
+use super::rules::candidates::{must, with, Given, Lent, RIGHT};
+use super::rules::{heard, misread, plan_by_trying, RULES};
 use super::{damage, numbers, random_setting, random_table, spaces, table_of, OneIn};
 use hubplan::candidates::{try_lists, try_rows, Answer, Candidates};
 use hubplan::held::Row;
@@ -51,7 +52,8 @@ pub fn library(lent: &Lent, space: &mut [u8]) -> Given {
     }
 }
 
-/// Tries the candidates and compares the report, every place of the answers and every byte of the working space; gives the refusal's number.
+/// Tries the candidates and compares the report, every place of the answers and every byte of the working space; gives
+/// the refusal's number.
 fn compare(lent: &Lent, right: &Given) -> u8 {
     let (mut space, after) = spaces(lent.space, right.refusal);
     assert_eq!(library(lent, &mut space), *right, "{lent:?}");
@@ -123,7 +125,11 @@ fn random_candidate(sequence: &mut Sequence, table: &Table) -> Row {
         row.start = if sequence.one_in(2) { table.ticks } else { u16::MAX };
     }
     if fault == 1 || fault == 2 {
-        row.mark = if sequence.one_in(2) { 6 } else { sequence.within(6, 255) as u8 };
+        row.mark = if sequence.one_in(2) {
+            6
+        } else {
+            sequence.within(6, 255) as u8
+        };
     }
     if fault == 3 {
         // a fault in a run, where in a round it sends all day; or the other way round
@@ -135,7 +141,10 @@ fn random_candidate(sequence: &mut Sequence, table: &Table) -> Row {
 fn random_lent(sequence: &mut Sequence, table: Table, candidates: usize) -> Lent {
     let rows: Vec<Row> = (0..candidates).map(|_| random_candidate(sequence, &table)).collect();
     let space = SPACE_BYTES + sequence.within(0, 3) as usize;
-    Lent { space, ..lend(table, &rows) }
+    Lent {
+        space,
+        ..lend(table, &rows)
+    }
 }
 
 /// Counts the numbers that the candidates of an accepted call are given.
@@ -155,7 +164,11 @@ fn up_to_7_rows_against_all_labels() {
         let lent = random_lent(&mut sequence, table, candidates);
         let right = lent.tried(&RIGHT);
         refused[compare(&lent, &right) as usize] += 1;
-        assert_eq!(right.refusal == 8, plan_by_trying(&RULES, &lent.table).is_none(), "{lent:?}");
+        assert_eq!(
+            right.refusal == 8,
+            plan_by_trying(&RULES, &lent.table).is_none(),
+            "{lent:?}"
+        );
         count_answers(&mut seen, &right);
         for j in (0..candidates).filter(|&j| right.refusal == 0 && (right.numbers[j] == 0 || right.numbers[j] == 8)) {
             let tried = plan_by_trying(&RULES, &with(&lent.table, must(lent.candidate(j))));
@@ -163,7 +176,10 @@ fn up_to_7_rows_against_all_labels() {
             assert_eq!((right.numbers[j], right.counts[j]), answer, "candidate {j} of {lent:?}");
         }
     }
-    assert!(refused[0] > 2_000 && refused[8] > 300 && refused[0] + refused[8] == 4_000, "{refused:?}");
+    assert!(
+        refused[0] > 2_000 && refused[8] > 300 && refused[0] + refused[8] == 4_000,
+        "{refused:?}"
+    );
     assert!([0, 6, 7, 8].iter().all(|&number| seen[number] > 200), "{seen:?}");
 }
 
@@ -172,14 +188,23 @@ fn planned(planner: Planner, table: &Table) -> (u8, usize) {
     numbers(table.plan(planner, &mut vec![0; table.rows()], &mut vec![0; SPACE_BYTES]))
 }
 
-/// Up to 63 rows and 64 candidates, beside the search and beside planning each longer table whole, by the library and by the hand port.
+/// Up to 63 rows and 64 candidates, beside the search and beside planning each longer table whole, by the library and
+/// by the hand port.
 #[test]
 fn larger_tables_against_the_search() {
     let mut sequence = Sequence::new(1_110);
     let (mut seen, mut refused) = ([0; 17], [0; 17]);
     for turn in 0..160 {
-        let rows = if turn % 4 == 0 { 63 } else { sequence.within(7, 63) as usize };
-        let candidates = if turn % 8 == 0 { 64 } else { sequence.within(0, 10) as usize };
+        let rows = if turn % 4 == 0 {
+            63
+        } else {
+            sequence.within(7, 63) as usize
+        };
+        let candidates = if turn % 8 == 0 {
+            64
+        } else {
+            sequence.within(0, 10) as usize
+        };
         let table = random_setting(&mut sequence, rows);
         let lent = random_lent(&mut sequence, table, candidates);
         let right = lent.tried(&RIGHT);
@@ -192,7 +217,10 @@ fn larger_tables_against_the_search() {
             assert_eq!(planned(port::plan, &longer), answer, "{longer:?}");
         }
     }
-    assert!(refused[0] > 60 && refused[8] > 20 && refused[0] + refused[8] == 160, "{refused:?}");
+    assert!(
+        refused[0] > 60 && refused[8] > 20 && refused[0] + refused[8] == 160,
+        "{refused:?}"
+    );
     assert!([0, 6, 7, 8].iter().all(|&number| seen[number] > 30), "{seen:?}");
 }
 
@@ -206,7 +234,8 @@ fn light_table(sequence: &mut Sequence, rows: usize) -> Table {
     random_table(sequence, rows, 43_200, 300, one_in)
 }
 
-/// 63 and 64 rows, some without a plan and some with a fault: "Beside a full table the candidates go unread, each is given 2 with count 0, and the reported count is 64."
+/// 63 and 64 rows, some without a plan and some with a fault. Beside 64 rows no candidate is read: each is answered 2
+/// with count 0, and 64 rows are looked at.
 #[test]
 fn full_tables() {
     let mut sequence = Sequence::new(1_120);
@@ -218,7 +247,11 @@ fn full_tables() {
             1 => table.marks.fill(1),
             _ => {}
         }
-        let candidates = if turn % 8 < 2 { 64 } else { sequence.within(0, 5) as usize };
+        let candidates = if turn % 8 < 2 {
+            64
+        } else {
+            sequence.within(0, 5) as usize
+        };
         let lent = random_lent(&mut sequence, table, candidates);
         let right = lent.tried(&RIGHT);
         let refusal = compare(&lent, &right);
@@ -246,7 +279,8 @@ fn damage_lists(sequence: &mut Sequence, lent: &mut Lent) {
         lent.counts.resize(places, 9);
     }
     for _ in 0..sequence.within(1, 2) {
-        let places = [0, lent.candidates() + 1, lent.candidates().saturating_sub(1), 64, 65][sequence.within(0, 4) as usize];
+        let places =
+            [0, lent.candidates() + 1, lent.candidates().saturating_sub(1), 64, 65][sequence.within(0, 4) as usize];
         match sequence.within(0, 5) {
             0 => lent.starts.resize(places, 0),
             1 => lent.ends.resize(places, 1),
@@ -294,7 +328,7 @@ fn damaged_calls_are_refused_by_number() {
     assert!(looked > 1_000, "{looked} refusals that looked at several rows");
 }
 
-/// How many calls tell the right meaning of the request from each that misreads it: damaged ones, and full tables.
+/// How many calls tell the rules from each misreading of them: damaged ones, and full tables.
 #[test]
 fn calls_tell_misreadings() {
     let mut sequence = Sequence::new(1_140);
@@ -360,11 +394,11 @@ fn refused(lent: &Lent, refusal: u8, rows: usize) {
     );
 }
 
-/// P2: at most three of its rows are heard, row 3 and two of the others.
-const P2: Rows = &[(10, 30, 0), (20, 40, 0), (25, 50, 0), (90, 10, 0)];
+/// At most three of these are heard, row 3 and two of the others.
+const FOUR: Rows = &[(10, 30, 0), (20, 40, 0), (25, 50, 0), (90, 10, 0)];
 
-/// P9, whose receivers are open from 0 to 50 and from 40 to 100.
-const P9: Rows = &[(45, 60, 0), (50, 60, 0), (0, 50, 0)];
+/// For a run whose receivers are open from 0 to 50 and from 40 to 100.
+const THREE: Rows = &[(45, 60, 0), (50, 60, 0), (0, 50, 0)];
 
 /// An accepted call without a gap in a round of 10 ticks: number and count of each candidate.
 fn of_10_ticks(rows: Rows, candidates: Rows, answers: &[(u8, u8)]) {
@@ -372,35 +406,77 @@ fn of_10_ticks(rows: Rows, candidates: Rows, answers: &[(u8, u8)]) {
     answered(&lent, answers, rows.len() + candidates.len());
 }
 
-/// A candidate beside all of P2's rows, over three of which one is heard then, over two, and all day; an end at R, a mark above 5, and both; and no candidate.
+/// A candidate apart from all rows, over three of which one is heard then, over two, and all day; an end at R, a mark
+/// above 5, and both; and no candidate.
 #[test]
-fn candidates_of_p2_by_hand() {
-    let p2 = table_of(Kind::Round, 100, P2);
-    let candidates = &rows_of(&[(50, 90, 0), (25, 30, 0), (30, 50, 0), (7, 7, 0), (50, 100, 0), (50, 60, 6), (100, 60, 6)]);
+fn candidates_beside_four_rows_by_hand() {
+    let four = table_of(Kind::Round, 100, FOUR);
+    let candidates = &rows_of(&[
+        (50, 90, 0),
+        (25, 30, 0),
+        (30, 50, 0),
+        (7, 7, 0),
+        (50, 100, 0),
+        (50, 60, 6),
+        (100, 60, 6),
+    ]);
     let answers = [(0, 4), (0, 3), (0, 4), (0, 3), (6, 0), (7, 0), (6, 0)];
-    answered(&lend(p2.clone(), candidates), &answers, 11);
-    answered(&lend(p2, &[]), &[], 4);
+    answered(&lend(four.clone(), candidates), &answers, 11);
+    answered(&lend(four, &[]), &[], 4);
     // where rows 0 and 1 must be heard, a third at the same tick cannot be
     let musts = table_of(Kind::Round, 100, &[(10, 30, 1), (20, 40, 1), (25, 50, 0), (90, 10, 0)]);
-    answered(&lend(musts, candidates), &[(0, 4), (8, 0), (0, 4), (8, 0), (6, 0), (7, 0), (6, 0)], 11);
+    answered(
+        &lend(musts, candidates),
+        &[(0, 4), (8, 0), (0, 4), (8, 0), (6, 0), (7, 0), (6, 0)],
+        11,
+    );
 }
 
-/// Each is tried alone, and "as an added must row": if it may be heard, it would be left out beside two musts.
+/// Each is tried alone, and as a row that must be heard: one that may be heard would be left out beside two musts.
 #[test]
 fn candidates_are_musts_and_alone() {
     of_10_ticks(&[], &[(4, 5, 0), (4, 5, 0), (4, 5, 0)], &[(0, 1), (0, 1), (0, 1)]);
-    of_10_ticks(&[(4, 5, 0), (4, 5, 0)], &[(4, 5, 0), (4, 5, 2), (5, 4, 0)], &[(0, 2), (0, 2), (0, 3)]);
+    of_10_ticks(
+        &[(4, 5, 0), (4, 5, 0)],
+        &[(4, 5, 0), (4, 5, 2), (5, 4, 0)],
+        &[(0, 2), (0, 2), (0, 3)],
+    );
     let answers = &[(8, 0), (8, 0), (0, 3), (8, 0)];
-    of_10_ticks(&[(4, 5, 1), (4, 5, 1)], &[(4, 5, 0), (4, 5, 1), (5, 6, 0), (3, 3, 4)], answers);
+    of_10_ticks(
+        &[(4, 5, 1), (4, 5, 1)],
+        &[(4, 5, 0), (4, 5, 1), (5, 6, 0), (3, 3, 4)],
+        answers,
+    );
 }
 
-/// "Marks 0, 2, 4 raised to 1, 3, 5": beside a must on receiver 1, and on receiver 2; and a candidate to which two must rows give way.
+/// Marks 0, 2 and 4 count as 1, 3 and 5: beside a must on receiver 1, and on receiver 2; and a candidate to which two
+/// must rows give way.
 #[test]
 fn raised_marks_by_hand() {
-    let each_mark = &[(4, 5, 0), (4, 5, 1), (4, 5, 2), (4, 5, 3), (4, 5, 4), (4, 5, 5), (4, 5, 6)];
-    of_10_ticks(&[(2, 6, 3)], each_mark, &[(0, 2), (0, 2), (8, 0), (8, 0), (0, 2), (0, 2), (7, 0)]);
-    of_10_ticks(&[(2, 6, 5)], each_mark, &[(0, 2), (0, 2), (0, 2), (0, 2), (8, 0), (8, 0), (7, 0)]);
-    of_10_ticks(&[(0, 3, 1), (5, 8, 1)], &[(2, 6, 2), (2, 6, 4), (2, 6, 0)], &[(0, 3), (0, 3), (0, 3)]);
+    let each_mark = &[
+        (4, 5, 0),
+        (4, 5, 1),
+        (4, 5, 2),
+        (4, 5, 3),
+        (4, 5, 4),
+        (4, 5, 5),
+        (4, 5, 6),
+    ];
+    of_10_ticks(
+        &[(2, 6, 3)],
+        each_mark,
+        &[(0, 2), (0, 2), (8, 0), (8, 0), (0, 2), (0, 2), (7, 0)],
+    );
+    of_10_ticks(
+        &[(2, 6, 5)],
+        each_mark,
+        &[(0, 2), (0, 2), (0, 2), (0, 2), (8, 0), (8, 0), (7, 0)],
+    );
+    of_10_ticks(
+        &[(0, 3, 1), (5, 8, 1)],
+        &[(2, 6, 2), (2, 6, 4), (2, 6, 0)],
+        &[(0, 3), (0, 3), (0, 3)],
+    );
     for mark in 6..=255 {
         of_10_ticks(&[(2, 6, 0)], &[(4, 5, mark), (10, 5, mark)], &[(7, 0), (6, 0)]);
     }
@@ -410,14 +486,19 @@ fn raised_marks_by_hand() {
 #[test]
 fn all_day_candidates_by_hand() {
     of_10_ticks(&[(0, 3, 0), (5, 8, 0)], &[(9, 9, 0), (0, 0, 4)], &[(0, 3), (0, 3)]);
-    of_10_ticks(&[(3, 3, 3), (5, 8, 0)], &[(9, 9, 0), (9, 9, 2), (1, 2, 0)], &[(0, 2), (8, 0), (0, 3)]);
+    of_10_ticks(
+        &[(3, 3, 3), (5, 8, 0)],
+        &[(9, 9, 0), (9, 9, 2), (1, 2, 0)],
+        &[(0, 2), (8, 0), (0, 3)],
+    );
     of_10_ticks(&[(3, 3, 1), (4, 4, 1)], &[(9, 9, 0), (1, 2, 0)], &[(8, 0), (8, 0)]);
 }
 
-/// In receiver 1's hours, in neither's, in receiver 2's, beyond R; start equal to end, which a run refuses; in the hours of the wrong receiver, and in both's.
+/// In receiver 1's hours, in neither's, in receiver 2's, beyond R; start equal to end, which a run refuses; in the
+/// hours of the wrong receiver, and in both's.
 #[test]
 fn candidates_and_hours_by_hand() {
-    let p9 = Kind::Run([[0, 50], [40, 100]]);
+    let hours = Kind::Run([[0, 50], [40, 100]]);
     let candidates = [
         (0, 10, 0),
         (30, 60, 0),
@@ -429,18 +510,19 @@ fn candidates_and_hours_by_hand() {
         (42, 45, 0),
     ];
     let answers = [(0, 2), (8, 0), (0, 3), (6, 0), (6, 0), (8, 0), (8, 0), (0, 3)];
-    answered(&lend(table_of(p9, 100, P9), &rows_of(&candidates)), &answers, 11);
+    answered(&lend(table_of(hours, 100, THREE), &rows_of(&candidates)), &answers, 11);
     let alone = [(0, 1), (8, 0), (0, 1), (6, 0), (6, 0), (8, 0), (8, 0), (0, 1)];
-    answered(&lend(table_of(p9, 100, &[]), &rows_of(&candidates)), &alone, 8);
+    answered(&lend(table_of(hours, 100, &[]), &rows_of(&candidates)), &alone, 8);
 }
 
-/// P2's row 0 ends 10 ticks before the first candidate, and row 3 ends 10 ticks before row 1 and 15 before row 2. With a gap of R or more a receiver hears one row.
+/// Row 0 of the four ends 10 ticks before the first candidate, and row 3 ends 10 ticks before row 1 and 15 before row
+/// 2. With a gap of R or more a receiver hears one row.
 #[test]
 fn candidates_and_gaps_by_hand() {
-    let p2 = table_of(Kind::Round, 100, P2);
+    let four = table_of(Kind::Round, 100, FOUR);
     let candidates = rows_of(&[(40, 60, 0), (50, 60, 0)]);
-    answered(&lend(p2.clone().with_gap(10), &candidates), &[(0, 4), (0, 4)], 6);
-    answered(&lend(p2.with_gap(11), &candidates), &[(0, 3), (0, 4)], 6);
+    answered(&lend(four.clone().with_gap(10), &candidates), &[(0, 4), (0, 4)], 6);
+    answered(&lend(four.with_gap(11), &candidates), &[(0, 3), (0, 4)], 6);
     let candidates = rows_of(&[(5, 6, 0), (5, 6, 2), (0, 1, 4)]);
     for (mark, second) in [(0, (0, 2)), (2, (0, 1)), (3, (8, 0))] {
         let table = table_of(Kind::Round, 10, &[(0, 1, mark)]).with_gap(600);
@@ -535,7 +617,17 @@ fn lists_of_unequal_length() {
     for places in [0, 1, 63, 64] {
         for list in 0..5 {
             for other in [places.max(1) - 1, places + 1] {
-                let mut lent = lend(many(Kind::Round, 64), &vec![Row { start: 0, end: 1, mark: 0 }; places]);
+                let mut lent = lend(
+                    many(Kind::Round, 64),
+                    &vec![
+                        Row {
+                            start: 0,
+                            end: 1,
+                            mark: 0
+                        };
+                        places
+                    ],
+                );
                 match list {
                     0 => lent.starts.resize(other, 0),
                     1 => lent.ends.resize(other, 0),
@@ -553,7 +645,14 @@ fn lists_of_unequal_length() {
     }
     // in all five it is too many
     for places in [MAX_CANDIDATES + 1, MAX_CANDIDATES + 2, 4 * MAX_CANDIDATES] {
-        let candidates = vec![Row { start: 0, end: 1, mark: 0 }; places];
+        let candidates = vec![
+            Row {
+                start: 0,
+                end: 1,
+                mark: 0
+            };
+            places
+        ];
         let mut lent = lend(many(Kind::Round, 3), &candidates[..1]);
         (lent.starts, lent.ends, lent.marks) = (vec![0; places], vec![1; places], vec![0; places]);
         refused(&lent, 16, 0);
@@ -562,7 +661,8 @@ fn lists_of_unequal_length() {
     }
 }
 
-/// 65 rows of which rows 4 and 7 have faults and rows 5 to 7 are equal windows, with R, hours and gap wrong, 65 candidates with faults, and answers of unequal length.
+/// 65 rows of which rows 4 and 7 have faults and rows 5 to 7 are equal windows, with R, hours and gap wrong, 65
+/// candidates with faults, and answers of unequal length.
 fn all_wrong(kind: Kind) -> Lent {
     let mut table = many(kind, 65).with_gap(601);
     (table.ticks, table.ends[4], table.marks[4], table.marks[7]) = (1, 101, 6, 255);
@@ -622,7 +722,8 @@ fn refusals_in_their_order() {
     }
 }
 
-/// A fault of each row in turn: "If the table stops at row k it is k+1". The rows before it must all be heard and cannot be, but 8 comes last.
+/// A fault of each row in turn: a table that stops at row k has k + 1 rows looked at. The rows before it must all be
+/// heard and cannot be, but 8 comes last.
 #[test]
 fn stops_at_each_row() {
     for kind in [Kind::Round, OPEN] {
@@ -639,5 +740,85 @@ fn stops_at_each_row() {
                 refused(&lend(table, &rows_of(&[(5, 6, 0), (200, 6, 0)])), 8, rows);
             }
         }
+    }
+}
+
+/// Starts, ends and marks of a candidate on both sides of their limits, beside no rows and beside a row.
+#[test]
+fn candidates_at_the_limits() {
+    for ticks in [2, 10, 43_200] {
+        let near = [0, 1, ticks - 2, ticks - 1, ticks, ticks + 1, u16::MAX];
+        let windows: Vec<(u16, u16)> = near.iter().flat_map(|&start| near.map(|end| (start, end))).collect();
+        for kind in [Kind::Round, Kind::Run([[0, ticks]; 2])] {
+            for mark in [0, 1, 2, 3, 4, 5, 6, 7, 254, 255] {
+                let answer = |&(start, end): &(u16, u16)| {
+                    let holds = match kind {
+                        Kind::Round => start < ticks && end < ticks,
+                        Kind::Run(_) => start < end && end <= ticks,
+                    };
+                    match (holds, mark) {
+                        (false, _) => (6, 0),
+                        (true, 6..) => (7, 0),
+                        (true, _) => (0, 1),
+                    }
+                };
+                let candidates = rows_of(
+                    &windows
+                        .iter()
+                        .map(|&(start, end)| (start, end, mark))
+                        .collect::<Vec<_>>(),
+                );
+                let answers: Vec<(u8, u8)> = windows.iter().map(answer).collect();
+                answered(&lend(table_of(kind, ticks, &[]), &candidates), &answers, windows.len());
+                let lent = lend(table_of(kind, ticks, &[(0, 1, 0)]), &candidates);
+                let right = lent.tried(&RIGHT);
+                assert_eq!(compare(&lent, &right), 0);
+                assert!((0..windows.len()).all(|j| right.numbers[j] == answers[j].0), "{lent:?}");
+            }
+        }
+    }
+}
+
+/// Each two refusals that can apply at once, and nothing else: the first in the order is reported. The rows are 0 to 1,
+/// 1 to 2 and 1 to 2.
+#[test]
+fn two_faults_at_once() {
+    type Fault = fn(&mut Lent);
+    let faults: [(u8, usize, Fault); 9] = [
+        (1, 0, |lent| lent.table.ends.push(1)),
+        (2, 0, |lent| {
+            let more = 65 - lent.table.starts.len();
+            lent.table.starts.extend(vec![0; more]);
+            lent.table.ends.extend(vec![1; more]);
+            lent.table.marks.extend(vec![0; more]);
+        }),
+        (3, 0, |lent| lent.space = SPACE_BYTES - 1),
+        (16, 0, |lent| lent.counts.push(0)),
+        (4, 0, |lent| lent.table.ticks = 43_201),
+        (14, 0, |lent| lent.table.gap = 601),
+        (6, 2, |lent| lent.table.starts[1] = 65_535),
+        (7, 2, |lent| lent.table.marks[1] = 6),
+        (8, 3, |lent| {
+            lent.table.marks[2] = 3;
+            lent.table.marks[1] |= 3;
+        }),
+    ];
+    for kind in [Kind::Round, OPEN] {
+        for (i, (first, rows, fault)) in faults.iter().enumerate() {
+            for (_, _, other) in &faults[i..] {
+                let table = table_of(kind, 100, &[(0, 1, 0), (1, 2, 0), (1, 2, 0)]);
+                let mut lent = lend(table, &rows_of(&[(5, 6, 0), (200, 6, 7)]));
+                fault(&mut lent);
+                other(&mut lent);
+                refused(&lent, *first, *rows);
+            }
+        }
+    }
+    // hours are a run's alone
+    for (number, _, other) in &faults {
+        let table = table_of(Kind::Run([[0, 100], [0, 101]]), 100, &[(0, 1, 0), (1, 2, 0), (1, 2, 0)]);
+        let mut lent = lend(table, &rows_of(&[(5, 6, 0)]));
+        other(&mut lent);
+        refused(&lent, if [1, 2, 3, 16, 4].contains(number) { *number } else { 5 }, 0);
     }
 }

@@ -1,13 +1,15 @@
-//! The player against requests 1, 3 and 6 written down independently (tests/papers/player.rs). Each start and step is made by the C function, whose whole answer is compared, by
-//! the safe function over it, and by the hand port, a step once more by the port with the remainder.
+//! The player against its rules written down independently (tests/rules/player.rs). Each start and step is made by the
+//! C function, whose whole answer is compared, by the safe function over it, and by the hand port, a step once more by
+//! the port with the remainder.
 
-use super::papers::player::{self as right, Told};
+use super::rules::player::{self as right, Told};
 use super::{random_gap, random_setting, random_table, table_of, OneIn};
 use hubplan::distance::Remainder;
 use hubplan::tables::{benchmark_tables, Sequence, Table};
 use hubplan::{player_port, port, Kind, Player, Receiver, Refusal, Stepped, PLAN_TAPE_BYTES, SPACE_BYTES};
 
-/// include/hubplan.h once more: the safe functions leave out what is promised of a refused player and of an idle receiver.
+/// include/hubplan.h once more: the safe functions leave out what is promised of a refused player and of an idle
+/// receiver.
 mod c {
     #[repr(C)]
     pub struct HubPlayer {
@@ -42,23 +44,31 @@ mod c {
     }
 }
 
-/// The session's plan tape of paper 01.
+/// The session's plan tape: on receiver 1 row 0, 10 to 30, and row 3, 90 to 10; on receiver 2 row 1, 20 to 40.
 const SESSION: [u8; 26] = [
-    0x10, 0x00, 0x64, 0x20, 0x01, 0x30, 0x00, 0x00, 0x0a, 0x00, 0x1e, 0x30, 0x03, 0x00, 0x5a, 0x00, 0x0a, 0x20, 0x02, 0x30, 0x01, 0x00, 0x14, 0x00,
-    0x28, 0x7f,
+    0x10, 0x00, 0x64, 0x20, 0x01, 0x30, 0x00, 0x00, 0x0a, 0x00, 0x1e, 0x30, 0x03, 0x00, 0x5a, 0x00, 0x0a, 0x20, 0x02,
+    0x30, 0x01, 0x00, 0x14, 0x00, 0x28, 0x7f,
 ];
 
 /// Starts a player and compares refusal and player; gives the refusal's number.
 fn compare_start(tape: &[u8], first: u16, expected: (u8, u16)) -> u8 {
     let started = unsafe { c::hub_player_start(tape.as_ptr(), tape.len(), first) };
-    assert_eq!((started.refusal, started.player.tick), expected, "{tape:02x?} at {first}");
+    assert_eq!(
+        (started.refusal, started.player.tick),
+        expected,
+        "{tape:02x?} at {first}"
+    );
     let result = match expected {
         (0, tick) => Ok(Player { tick }),
         (12, _) => Err(Refusal::Tape),
         _ => Err(Refusal::FirstTick),
     };
     assert_eq!(hubplan::start(tape, first), result, "{tape:02x?} at {first}");
-    assert_eq!(player_port::start(tape, first), result, "{tape:02x?} at {first}, hand port");
+    assert_eq!(
+        player_port::start(tape, first),
+        result,
+        "{tape:02x?} at {first}, hand port"
+    );
     started.refusal
 }
 
@@ -70,20 +80,37 @@ fn compare_step(tape: &[u8], tick: u16, told: Option<[Told; 2]>, next: u16) {
         row: told.map_or(0, |(row, _)| row),
         until: told.map_or(0, |(_, end)| end),
     });
-    let given = (stepped.finished, stepped.receiver1, stepped.receiver2, stepped.player.tick);
-    assert_eq!(given, (told.is_none(), receiver1, receiver2, next), "{tape:02x?} at {tick}");
+    let given = (
+        stepped.finished,
+        stepped.receiver1,
+        stepped.receiver2,
+        stepped.player.tick,
+    );
+    assert_eq!(
+        given,
+        (told.is_none(), receiver1, receiver2, next),
+        "{tape:02x?} at {tick}"
+    );
     let receiver = |told: Told| told.map_or(Receiver::Idle, |(row, until)| Receiver::Listening { row, until });
     let result = Stepped {
         receivers: told.map(|both| both.map(receiver)),
         player: Player { tick: next },
     };
     assert_eq!(hubplan::step(tape, Player { tick }), result, "{tape:02x?} at {tick}");
-    assert_eq!(player_port::step(tape, Player { tick }), result, "{tape:02x?} at {tick}, hand port");
+    assert_eq!(
+        player_port::step(tape, Player { tick }),
+        result,
+        "{tape:02x?} at {tick}, hand port"
+    );
     let by_remainder = player_port::step_by::<Remainder>(tape, Player { tick });
-    assert_eq!(by_remainder, result, "{tape:02x?} at {tick}, hand port with the remainder");
+    assert_eq!(
+        by_remainder, result,
+        "{tape:02x?} at {tick}, hand port with the remainder"
+    );
 }
 
-/// Starts a player at each of the first ticks and follows it: two whole days and a few ticks of a round, or a run to its end and beyond.
+/// Starts a player at each of the first ticks and follows it: two whole days and a few ticks of a round, or a run to
+/// its end and beyond.
 fn compare_days(tape: &[u8], firsts: impl Iterator<Item = u16>) {
     let stated = right::stated(tape).expect("ROUND or RUN");
     let ticks = stated.ticks as usize;
@@ -92,7 +119,9 @@ fn compare_days(tape: &[u8], firsts: impl Iterator<Item = u16>) {
         compare_start(tape, first, (0, first));
         let mut player = Player { tick: first };
         for n in 0..2 * ticks + 3 {
-            let told = stated.tick_of_step(first, n).map(|tick| [day1[tick as usize], day2[tick as usize]]);
+            let told = stated
+                .tick_of_step(first, n)
+                .map(|tick| [day1[tick as usize], day2[tick as usize]]);
             // where a run is finished its player stays at R
             let next = stated.tick_of_step(first, n + 1).unwrap_or(stated.ticks);
             compare_step(tape, player.tick, told, next);
@@ -133,7 +162,10 @@ fn every_first_tick_of_short_days() {
         rounds += u32::from(table.kind == Kind::Round);
         gaps += u32::from(gap > 0);
         listens += tape.len() / 6 - 1;
-        all_day += commands(&tape).into_iter().filter(|command| is_all_day(command)).count();
+        all_day += commands(&tape)
+            .into_iter()
+            .filter(|command| is_all_day(command))
+            .count();
     }
     assert!(
         rounds > 200 && rounds < 400 && gaps > 200 && listens > 1_500 && all_day > 50,
@@ -141,8 +173,8 @@ fn every_first_tick_of_short_days() {
     );
 }
 
-/// Request 6, of every R: a round with one window from each to each of six ticks tells of it exactly at the ticks that lie less far after its start than its end does, or always
-/// where the end is the start.
+/// Every R: a round with one window from each to each of six ticks tells of it exactly at the ticks that lie less far
+/// after its start than its end does, or always where the end is the start.
 #[test]
 fn every_round_by_the_remainder() {
     let (mut listening, mut idle, mut before) = (0, 0, 0);
@@ -155,7 +187,12 @@ fn every_round_by_the_remainder() {
                 for tick in chosen {
                     let far = |to| right::distance(ticks, start, to);
                     let told = (start == end || far(tick) < far(end)).then_some((5, end));
-                    compare_step(&tape, tick, Some([told, None]), if tick + 1 == ticks { 0 } else { tick + 1 });
+                    compare_step(
+                        &tape,
+                        tick,
+                        Some([told, None]),
+                        if tick + 1 == ticks { 0 } else { tick + 1 },
+                    );
                     listening += u32::from(told.is_some());
                     idle += u32::from(told.is_none());
                     before += u32::from(told.is_some() && tick < start);
@@ -201,8 +238,8 @@ fn longer_tables_at_some_ticks() {
     assert!(most > 8 + 6 * 40, "the longest tape has {most} bytes");
 }
 
-/// Small plan tapes: the session's, one of a run, windows that touch in a round, one of R 2, one without LISTENs, one window that covers every tick beside two others, and two
-/// such windows.
+/// Small plan tapes: the session's, one of a run, windows that touch in a round, one of R 2, one without LISTENs, one
+/// window that covers every tick beside two others, and two such windows.
 fn small_tapes() -> Vec<Vec<u8>> {
     let of = |kind: Kind, ticks: u16, windows: &[(u16, u16)]| {
         let rows: Vec<(u16, u16, u8)> = windows.iter().map(|&(start, end)| (start, end, 0)).collect();
@@ -210,7 +247,11 @@ fn small_tapes() -> Vec<Vec<u8>> {
     };
     let tapes = vec![
         of(Kind::Round, 100, &[(10, 30), (20, 40), (25, 50), (90, 10)]),
-        of(Kind::Run([[0, 100]; 2]), 100, &[(10, 30), (20, 40), (25, 50), (90, 100)]),
+        of(
+            Kind::Run([[0, 100]; 2]),
+            100,
+            &[(10, 30), (20, 40), (25, 50), (90, 100)],
+        ),
         of(Kind::Round, 10, &[(8, 2), (2, 8), (4, 6)]),
         of(Kind::Round, 2, &[(0, 1), (1, 0), (0, 1)]),
         of(Kind::Run([[0, 43_200]; 2]), 43_200, &[]),
@@ -311,20 +352,36 @@ fn put_word(tape: &mut Vec<u8>, word: u32) {
     tape.extend((word as u16).to_be_bytes());
 }
 
-/// A tape of the form of a plan tape, or almost, with any rows and windows: its LISTENs in order or not, over each other or not.
+/// A tape of the form of a plan tape, or almost, with any rows and windows: its LISTENs in order or not, over each
+/// other or not.
 fn random_form(sequence: &mut Sequence) -> Vec<u8> {
     let ticks = [0, 1, 2, 3, 10, 20, 100, 300, 43_200, 43_201, 65_535][sequence.within(0, 10) as usize];
     let mut tape = vec![0x10 + sequence.within(0, 1) as u8];
     put_word(&mut tape, ticks);
     let most = sequence.within(0, 4);
     for number in [1, 2] {
-        tape.extend([0x20, if sequence.one_in(30) { sequence.within(0, 3) as u8 } else { number }]);
+        tape.extend([
+            0x20,
+            if sequence.one_in(30) {
+                sequence.within(0, 3) as u8
+            } else {
+                number
+            },
+        ]);
         let mut listens: Vec<[u32; 3]> = (0..sequence.within(0, most))
             .map(|_| {
                 let row = if sequence.one_in(8) { 62 } else { 0 } + sequence.within(0, 8);
-                let latest = if sequence.one_in(20) { ticks } else { ticks.saturating_sub(1) };
+                let latest = if sequence.one_in(20) {
+                    ticks
+                } else {
+                    ticks.saturating_sub(1)
+                };
                 let start = sequence.within(0, latest);
-                let length = if sequence.one_in(8) { 0 } else { sequence.within(0, ticks / 4 + 1) };
+                let length = if sequence.one_in(8) {
+                    0
+                } else {
+                    sequence.within(0, ticks / 4 + 1)
+                };
                 let end = if sequence.one_in(2) {
                     start + length
                 } else {
@@ -367,7 +424,10 @@ fn forms_with_any_rows_and_windows() {
         round[0] > 500 && round[12] > 2_000 && round[13] > 100,
         "tapes of a round with LISTEN s s: {round:?}"
     );
-    assert!(run[12] > 2_000 && run[0] + run[13] == 0, "tapes of a run with LISTEN s s: {run:?}");
+    assert!(
+        run[12] > 2_000 && run[0] + run[13] == 0,
+        "tapes of a run with LISTEN s s: {run:?}"
+    );
 }
 
 #[test]
@@ -397,7 +457,250 @@ fn steps_on_any_bytes_with_any_player() {
             listening += u32::from(told.is_some_and(|both| both != [None; 2]));
         }
     }
-    assert!(finished > 20_000 && listening > 5_000, "{finished} finished, {listening} listening");
+    assert!(
+        finished > 20_000 && listening > 5_000,
+        "{finished} finished, {listening} listening"
+    );
+}
+
+/// A tape with other bytes at some places.
+fn with_bytes(tape: [u8; 26], changes: &[(usize, u8)]) -> [u8; 26] {
+    let mut other = tape;
+    for &(at, byte) in changes {
+        other[at] = byte;
+    }
+    other
+}
+
+/// Starts at tick 0 on a tape of which it is known whether it is taken; the player of a refused start is finished on
+/// every tape.
+fn by_hand(tape: &[u8], taken: bool) {
+    assert_eq!(right::is_taken(tape), taken, "{tape:02x?}");
+    compare_start(tape, 0, if taken { (0, 0) } else { (12, 65_535) });
+    if !taken {
+        for other in [&SESSION[..], &[], tape] {
+            compare_step(other, 65_535, None, 65_535);
+        }
+    }
+}
+
+/// The session's tape with bytes changed, as a round and as a run in which row 3 ends at R, and whether it is then
+/// taken. LISTEN stands at 5 and 11 for receiver 1, at 19 for receiver 2: command, row, start, end.
+#[test]
+fn changes_of_the_session_by_hand() {
+    type Case<'a> = (&'a [(usize, u8)], bool);
+    let round: [Case; 55] = [
+        (&[], true),
+        // receivers exchanged, twice the same, none
+        (&[(4, 2), (18, 1)], false),
+        (&[(4, 2)], false),
+        (&[(18, 1)], false),
+        (&[(4, 0)], false),
+        (&[(18, 3)], false),
+        // other commands of plan tapes
+        (&[(0, 0x11)], false),
+        (&[(0, 0x20)], false),
+        (&[(3, 0x30)], false),
+        (&[(5, 0x20)], false),
+        (&[(5, 0x7f)], false),
+        (&[(11, 0x20)], false),
+        (&[(11, 0x7f)], false),
+        (&[(17, 0x30)], false),
+        (&[(17, 0x7f)], false),
+        (&[(19, 0x20)], false),
+        (&[(19, 0x7f)], false),
+        (&[(25, 0x20)], false),
+        (&[(25, 0x30)], false),
+        // rows 63, 64 and 255; a row twice on one receiver, and on both
+        (&[(12, 63)], true),
+        (&[(12, 64)], false),
+        (&[(12, 255)], false),
+        (&[(20, 64)], false),
+        (&[(12, 0)], false),
+        (&[(20, 0)], false),
+        (&[(20, 3)], false),
+        (&[(20, 2)], true),
+        // row 3 from 90 to 100, 99 and 0; from 100 and 99 to 10; to 65,290; from 65,370
+        (&[(16, 100)], false),
+        (&[(16, 99)], true),
+        (&[(16, 0)], true),
+        (&[(14, 100)], false),
+        (&[(14, 99)], true),
+        (&[(15, 255)], false),
+        (&[(13, 255)], false),
+        // row 1 from s to s, alone on its receiver: s below R
+        (&[(24, 20)], true),
+        (&[(22, 0), (24, 0)], true),
+        (&[(22, 99), (24, 99)], true),
+        (&[(22, 100), (24, 100)], false),
+        // beside another row on its receiver it overlaps
+        (&[(10, 10)], false),
+        (&[(16, 90)], false),
+        (&[(10, 10), (16, 90)], false),
+        // row 0 is 10 to 30, and row 3 from 29 and 30 to 10, and from 90 to 11; or row 0 ends at 90, 91 and 5; touching
+        // is taken
+        (&[(14, 29)], false),
+        (&[(14, 30)], true),
+        (&[(16, 11)], false),
+        (&[(10, 90)], true),
+        (&[(10, 91)], false),
+        (&[(10, 5)], false),
+        (&[(14, 10), (16, 20)], false),
+        (&[(14, 20), (16, 25)], false),
+        (&[(14, 31), (16, 30)], false),
+        // not by rising start, though nothing overlaps
+        (&[(14, 0)], false),
+        (&[(14, 5), (16, 9)], false),
+        // R 50, which is not above 90; R 0 and 1
+        (&[(2, 50)], false),
+        (&[(2, 0)], false),
+        (&[(2, 1)], false),
+    ];
+    let run: [Case; 20] = [
+        (&[], true),
+        (&[(16, 101)], false),
+        (&[(16, 90)], false),
+        (&[(16, 89)], false),
+        (&[(16, 91)], true),
+        (&[(14, 99)], true),
+        (&[(14, 100)], false),
+        (&[(10, 10)], false),
+        (&[(10, 9)], false),
+        (&[(14, 100), (16, 101)], false),
+        // from s to s, which a run refuses
+        (&[(24, 20)], false),
+        (&[(22, 0), (24, 0)], false),
+        (&[(22, 99), (24, 99)], false),
+        (&[(22, 100), (24, 100)], false),
+        // row 0 is 10 to 30, and row 3 from 29, 30, 10 and 9 to 100; before it, though nothing overlaps
+        (&[(14, 29)], false),
+        (&[(14, 30)], true),
+        (&[(14, 10)], false),
+        (&[(14, 9)], false),
+        (&[(14, 0), (16, 10)], false),
+        (&[(0, 0x10)], false),
+    ];
+    for (changes, taken) in round {
+        by_hand(&with_bytes(SESSION, changes), taken);
+    }
+    for (changes, taken) in run {
+        by_hand(
+            &with_bytes(with_bytes(SESSION, &[(0, 0x11), (16, 100)]), changes),
+            taken,
+        );
+    }
+    for at in [0, 3, 5, 11, 17, 19, 25] {
+        // commands of fleet tapes, and none
+        for byte in [0x00, 0x40, 0x41, 0x50, 0xff] {
+            by_hand(&with_bytes(SESSION, &[(at, byte)]), false);
+        }
+    }
+    for at in 0..26 {
+        by_hand(&SESSION[..at], false);
+    }
+}
+
+/// Short tapes, with and without RECEIVERs and LISTENs in their places, and whether they are taken.
+#[test]
+fn forms_by_hand() {
+    let (one, two): (&[u8], &[u8]) = (&[0x20, 1], &[0x20, 2]);
+    let (late, early): (&[u8], &[u8]) = (&[0x30, 0, 0, 30, 0, 40], &[0x30, 1, 0, 20, 0, 30]);
+    let cases: [(&[&[u8]], bool); 16] = [
+        (&[one, two, &[0x7f]], true),
+        (&[one, two, &[0x7f, 0x7f]], false),
+        (&[one, two, &[0x7f, 0x00]], false),
+        (&[one, two], false),
+        (&[one, &[0x7f]], false),
+        (&[two, &[0x7f]], false),
+        (&[&[0x7f]], false),
+        (&[two, one, &[0x7f]], false),
+        (&[one, two, two, &[0x7f]], false),
+        (&[one, one, two, &[0x7f]], false),
+        (&[late, one, two, &[0x7f]], false),
+        (&[&[0x40, 0, 10, 0, 30, 0x7f]], false),
+        (&[one, two, early, late, &[0x7f]], true),
+        (&[one, two, late, early, &[0x7f]], false),
+        (&[one, early, late, two, &[0x7f]], true),
+        (&[one, late, early, two, &[0x7f]], false),
+    ];
+    for command in [0x10, 0x11] {
+        for (parts, taken) in cases {
+            by_hand(&[&[command, 0, 100], &parts.concat()[..]].concat(), taken);
+        }
+        // R 0, 1, 2, 43,200, 43,201 and 65,535
+        for (ticks, taken) in [
+            (0u16, false),
+            (1, false),
+            (2, true),
+            (43_200, true),
+            (43_201, false),
+            (65_535, false),
+        ] {
+            let [high, low] = ticks.to_be_bytes();
+            by_hand(&[command, high, low, 0x20, 1, 0x20, 2, 0x7f], taken);
+        }
+    }
+    by_hand(&[0x20, 1, 0x20, 2, 0x7f], false);
+    // from the last tick of the longest round to 0, to itself, and to R; from R to R
+    for (start, end, taken) in [
+        (43_199u16, 0u16, true),
+        (43_199, 43_199, true),
+        (43_199, 43_200, false),
+        (43_200, 43_200, false),
+    ] {
+        let ([a, b], [c, d]) = (start.to_be_bytes(), end.to_be_bytes());
+        by_hand(&[0x10, 0xa8, 0xc0, 0x20, 1, 0x30, 0, a, b, c, d, 0x20, 2, 0x7f], taken);
+    }
+}
+
+/// LISTENs of so many rows on receiver 1, each 512 ticks after the one before, the last of this row: 64 of different
+/// rows are taken, 65 never are.
+#[test]
+fn as_many_listens_as_there_are_rows_and_one_more() {
+    for command in [0x10, 0x11] {
+        for (listens, last, taken) in [(64u8, 63u8, true), (64, 0, false), (65, 64, false), (65, 0, false)] {
+            let mut tape = vec![command, 0xa8, 0xc0, 0x20, 1];
+            for i in 0..listens {
+                tape.extend([0x30, if i + 1 == listens { last } else { i }, 2 * i, 0, 2 * i + 2, 0]);
+            }
+            tape.extend([0x20, 2, 0x7f]);
+            by_hand(&tape, taken);
+        }
+    }
+}
+
+/// Each window of each round and run of up to 24 ticks, on either receiver, at each tick.
+#[test]
+fn every_window_of_short_days() {
+    let mut listening = [0; 2];
+    for (run, command) in [(false, 0x10), (true, 0x11)] {
+        for ticks in 2..=24u8 {
+            for start in 0..ticks {
+                for end in 0..=ticks {
+                    let (one, listen) = ([command, 0, ticks, 0x20, 1], [0x30, 5, 0, start, 0, end]);
+                    let tapes = [[&one[..], &listen, &[0x20, 2, 0x7f]], [&one, &[0x20, 2], &listen]]
+                        .map(|parts| parts.concat());
+                    for (receiver, tape) in tapes.iter().enumerate() {
+                        for tick in 0..ticks {
+                            // ahead of the start the window lies in a run nowhere, and in a round if it goes on over
+                            // the end of the day
+                            let covered = if start < end {
+                                start <= tick && tick < end && (run || end < ticks)
+                            } else {
+                                !run && (start <= tick || tick < end)
+                            };
+                            let told = covered.then_some((5, end as u16));
+                            let both = if receiver == 0 { [told, None] } else { [None, told] };
+                            let next = if !run && tick + 1 == ticks { 0 } else { tick + 1 };
+                            compare_step(tape, tick as u16, Some(both), next as u16);
+                            listening[run as usize] += u32::from(covered);
+                        }
+                    }
+                }
+            }
+        }
+    }
+    assert!(listening.iter().all(|&steps| steps > 30_000), "{listening:?}");
 }
 
 #[test]
@@ -420,8 +723,8 @@ fn first_ticks_and_the_order_of_refusals() {
     }
 }
 
-/// LISTEN s s as the only one of a round: written, read back and played for two days. "As the tick until which it listens the player gives the window's end", at every tick,
-/// the end itself included.
+/// LISTEN s s as the only one of a round: written, read back and played for two days. At every tick, the end itself
+/// included, the player gives the window's end as the tick until which the receiver listens.
 #[test]
 fn the_end_is_told_all_day() {
     for (ticks, s) in [(2, 0), (2, 1), (10, 0), (10, 7), (10, 9), (43_200, 0), (43_200, 43_199)] {
@@ -436,7 +739,8 @@ fn the_end_is_told_all_day() {
     }
 }
 
-/// LISTEN s s with s from 0 to R, as the only one of a tape: 12 at R and above in a round, and in a run always. A step passes over a window that breaks the rules.
+/// LISTEN s s with s from 0 to R, as the only one of a tape: 12 at R and above in a round, and in a run always. A step
+/// passes over a window that breaks the rules.
 #[test]
 fn listen_s_s_in_rounds_and_runs() {
     for command in [0x10, 0x11] {
@@ -448,7 +752,10 @@ fn listen_s_s_in_rounds_and_runs() {
             compare_step(&tape, 4, Some([None, told]), 5);
             // beside another of the same receiver, before it or after it, it overlaps
             let listen = [0x30, 5, 0, 6, 0, 7];
-            for beside in [[&tape[..7], &listen, &tape[7..]].concat(), [&tape[..13], &listen, &tape[13..]].concat()] {
+            for beside in [
+                [&tape[..7], &listen, &tape[7..]].concat(),
+                [&tape[..13], &listen, &tape[13..]].concat(),
+            ] {
                 compare_start(&beside, 4, (12, 65_535));
             }
             // and not beside one of the other

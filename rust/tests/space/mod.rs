@@ -1,16 +1,17 @@
-//! Working space against request 9 written down independently (tests/papers/space.rs): every function that is lent some, with lengths on both sides of the limit and far beyond it,
-//! whatever it holds, each call compared whole.
+//! Working space against its rules written down independently (tests/rules/space.rs): every function that is lent some,
+//! with lengths on both sides of the limit and far beyond it, whatever it holds, each call compared whole.
 
-use super::papers::candidates::with;
-use super::papers::held::{Change, Held};
-use super::papers::space::{Answers, Call, Given, RIGHT};
-use super::papers::{fleet_tape, misread};
-use super::{candidates, damage, held, lent_labels, lent_space, numbers, random_fleet_tape, random_setting, table_of};
+use super::fleet::random_tape;
+use super::rules::candidates::with;
+use super::rules::held::{Change, Held};
+use super::rules::space::{Answers, Call, Given, RIGHT};
+use super::rules::{fleet_tape, misread};
+use super::{candidates, damage, held, lent_labels, lent_space, numbers, random_setting, table_of};
 use hubplan::held::Row;
 use hubplan::tables::{benchmark_tables, Planner, Sequence, Table};
 use hubplan::{port, Kind, MAX_ROWS, REPLY_BYTES, SPACE_BYTES};
 
-/// Shorter than the limit, from it on, and on both sides of the former one.
+/// Shorter than the limit, from it on, and far beyond it.
 const LENGTHS: [usize; 9] = [0, 1, 4_607, 4_608, 4_609, 5_000, 16_383, 16_384, 20_000];
 
 const FUNCTIONS: [&str; 7] = [
@@ -79,7 +80,8 @@ fn library(call: &Call, planner: Planner, space: &mut [u8]) -> Given {
     }
 }
 
-/// Makes a call in this working space and compares all that it gives, and every byte of the working space; where a table is planned, by the hand port too.
+/// Makes a call in this working space and compares all that it gives, and every byte of the working space; where a
+/// table is planned, by the hand port too.
 fn compare(call: &Call, answers: &Answers, before: &[u8]) {
     let right = answers.given(&RIGHT, before);
     let planners: &[Planner] = match call {
@@ -129,10 +131,17 @@ fn change_call(table: Table, change: Change) -> Call {
     Call::Change { lent, change }
 }
 
-/// The calls that plan the same table, of some rows: by itself, from its fleet tape, which has no gap, and before a candidate; a round also as held, by adding its last row, and
-/// by withdrawing a row after it, or after its first 63.
+/// The calls that plan the same table, of some rows: by itself, from its fleet tape, which has no gap, and before a
+/// candidate; a round also as held, by adding its last row, and by withdrawing a row after it, or after its first 63.
 fn calls_of(table: &Table) -> Vec<Call> {
-    let (rows, other) = (table.rows(), Row { start: 0, end: 1, mark: 0 });
+    let (rows, other) = (
+        table.rows(),
+        Row {
+            start: 0,
+            end: 1,
+            mark: 0,
+        },
+    );
     let kept = rows.min(MAX_ROWS - 1);
     let mut calls = vec![
         plan_call(table.clone(), rows),
@@ -146,7 +155,10 @@ fn calls_of(table: &Table) -> Vec<Call> {
             mark: table.marks[rows - 1],
         };
         calls.push(change_call(table.clone().first(rows - 1), Change::Add(last)));
-        calls.push(change_call(with(&table.clone().first(kept), other), Change::Withdraw(kept)));
+        calls.push(change_call(
+            with(&table.clone().first(kept), other),
+            Change::Withdraw(kept),
+        ));
     }
     calls
 }
@@ -167,7 +179,7 @@ fn random_call(sequence: &mut Sequence) -> Call {
             Call::Change { lent, change }
         }
         2 => Call::Try(candidates::damaged(sequence)),
-        _ => reply_call(random_fleet_tape(sequence)),
+        _ => reply_call(random_tape(sequence)),
     }
 }
 
@@ -176,12 +188,16 @@ fn by_hand(call: &Call, length: usize, refusal: u8, cleared: usize) {
     let (number, given) = call.answer(length);
     assert_eq!(number, refusal, "{length} bytes, {call:?}");
     let (mut space, mut after) = (lent_space(length), lent_space(length));
-    assert_eq!(library(call, hubplan::plan, &mut space), given, "{length} bytes, {call:?}");
+    assert_eq!(
+        library(call, hubplan::plan, &mut space),
+        given,
+        "{length} bytes, {call:?}"
+    );
     after[..cleared].fill(0);
     assert!(space == after, "working space of {length} bytes, {call:?}");
 }
 
-/// Three rows of which two are heard, of which all must be heard and cannot be, and of which one ends beyond R: "01's two edges become 4,607 and 4,608".
+/// Three rows of which two are heard, of which all must be heard and cannot be, and of which one ends beyond R.
 #[test]
 fn lengths_by_hand() {
     assert_eq!(SPACE_BYTES, 4_608);
@@ -204,7 +220,11 @@ fn lengths_by_hand() {
 #[test]
 fn refusals_before_3_by_hand() {
     let rows = |rows: usize| table_of(Kind::Round, 100, &vec![(0, 1, 0); rows]);
-    let row = Row { start: 0, end: 1, mark: 0 };
+    let row = Row {
+        start: 0,
+        end: 1,
+        mark: 0,
+    };
     let calls = [
         (plan_call(rows(2), 1), 1),
         (plan_call(rows(65), 65), 2),
@@ -246,7 +266,7 @@ fn full_tables() {
     met.check([10, 10, 0]);
 }
 
-/// How many calls of each function tell the right meaning of the request from each that misreads it.
+/// How many calls of each function tell the right meaning from each that misreads it.
 #[test]
 fn calls_tell_misreadings() {
     let mut sequence = Sequence::new(1_320);

@@ -1,13 +1,15 @@
-//! One bit per row against request 8 written down independently (tests/papers/words.rs): each call compared whole, labels and words converted either way and back.
+//! Words of one bit a row against their rules written down independently (rules/words.rs): each call compared whole,
+//! labels and words converted either way and back.
 
-use super::papers::words::{is_plan, ones, Call, Given, RIGHT};
-use super::papers::{self, misread, RULES};
+use super::rules::words::{is_plan, ones, Call, Given, RIGHT};
+use super::rules::{self, misread, RULES};
 use super::{count, damage, random_setting, right_plan, table_of};
 use hubplan::tables::{benchmark_tables, Sequence, Table};
 use hubplan::words::{clashes, of_labels, of_marks, to_labels};
 use hubplan::{mark, Kind, Refusal, MAX_GAP, MAX_ROWS, SPACE_BYTES};
 
-/// What the library gives for a call, or the number of its refusal. Lists that are written hold anything before it, and are left by a refusal.
+/// What the library gives for a call, or the number of its refusal. Lists that are written hold anything before it, and
+/// are left by a refusal.
 fn library(call: &Call) -> Result<Given, u8> {
     let given = match call {
         Call::Labels(labels) => of_labels(labels).map(|words| Given {
@@ -33,15 +35,26 @@ fn library(call: &Call) -> Result<Given, u8> {
         Call::Windows { table, places } => {
             let before: Vec<u64> = (0..*places as u64).map(|i| !i << 20 | 0xa5).collect();
             let mut words = before.clone();
-            let answer = clashes(table.kind, table.ticks, table.gap, &table.starts, &table.ends, &mut words);
+            let answer = clashes(
+                table.kind,
+                table.ticks,
+                table.gap,
+                &table.starts,
+                &table.ends,
+                &mut words,
+            );
             assert!(answer.is_ok() || words == before, "{call:?}");
-            answer.map(|()| Given { words, ..Given::default() })
+            answer.map(|()| Given {
+                words,
+                ..Given::default()
+            })
         }
     };
     given.map_err(Refusal::number)
 }
 
-/// Compares what the library gives for a call with what is right, and what is carried is carried back; gives the refusal's number.
+/// Compares what the library gives for a call with what is right, and what is carried is carried back; gives the
+/// refusal's number.
 fn compare(call: &Call, right: &Result<Given, u8>) -> u8 {
     assert_eq!(library(call), *right, "{call:?}");
     let given = match right {
@@ -86,8 +99,15 @@ fn windows_call(table: &Table) -> Call {
 fn check_clash_words(table: &Table, words: &[u64]) {
     let rows = table.rows();
     for i in 0..rows {
-        assert_eq!((words[i] >> i & 1, words[i] & above(rows)), (0, 0), "row {i} of {table:?}");
-        assert!((0..i).all(|j| words[i] >> j & 1 == words[j] >> i & 1), "row {i} of {table:?}");
+        assert_eq!(
+            (words[i] >> i & 1, words[i] & above(rows)),
+            (0, 0),
+            "row {i} of {table:?}"
+        );
+        assert!(
+            (0..i).all(|j| words[i] >> j & 1 == words[j] >> i & 1),
+            "row {i} of {table:?}"
+        );
     }
 }
 
@@ -120,7 +140,7 @@ fn labels_by_hand(labels: &[u8], right: Result<(u64, u64, usize), u8>) {
 /// Words worked out by hand: the labels, of which the ones and twos are heard.
 fn words_by_hand(heard: u64, receiver: u64, rows: usize, right: Result<Vec<u8>, u8>) {
     let given = |labels: Vec<u8>| Given {
-        count: papers::heard(&labels),
+        count: rules::heard(&labels),
         labels,
         ..Given::default()
     };
@@ -184,7 +204,7 @@ fn labels_and_words_by_hand() {
     labels_by_hand(&[1], Ok((1, 0, 1)));
     labels_by_hand(&[2], Ok((1, 1, 1)));
     labels_by_hand(&[3], Err(9));
-    // P2, and P9 with its row 1 must
+    // labels of four rows and of three
     labels_by_hand(&[1, 2, 0, 1], Ok((0b1011, 0b0010, 3)));
     labels_by_hand(&[0, 2, 1], Ok((0b110, 0b010, 2)));
     labels_by_hand(&[0, 0, 2, 0, 0], Ok((4, 4, 1)));
@@ -199,7 +219,7 @@ fn labels_and_words_by_hand() {
     words_by_hand(0b1011, 0b1011, 4, Ok(vec![2, 2, 0, 2]));
 }
 
-/// 62 to 66 labels that are alike, and with a label above 2 at either end: "9, after 2 for over 64 rows".
+/// 62 to 66 labels that are alike, and with a label above 2 at either end: 2 comes before 9.
 #[test]
 fn labels_at_the_limit() {
     for rows in 62..=66 {
@@ -218,7 +238,12 @@ fn labels_at_the_limit() {
         words_by_hand(all, all, rows, if over { Err(2) } else { Ok(vec![2; rows]) });
         // a receiver bit of a row not heard
         words_by_hand(all - 1, 1, rows, Err(if over { 2 } else { 9 }));
-        words_by_hand(u64::MAX, 0, rows, [Err(9), Err(9), Ok(vec![1; 64]), Err(2), Err(2)][rows - 62].clone());
+        words_by_hand(
+            u64::MAX,
+            0,
+            rows,
+            [Err(9), Err(9), Ok(vec![1; 64]), Err(2), Err(2)][rows - 62].clone(),
+        );
     }
     for rows in [128, 256, 65_536] {
         labels_by_hand(&vec![1; rows], Err(2));
@@ -227,20 +252,28 @@ fn labels_at_the_limit() {
     }
 }
 
-/// Every label at each place of 1, 63 and 64 rows, of which the others are heard.
+/// Every label at each place of 1, 63 and 64 rows, of which the others are not heard, or are all heard by one receiver;
+/// and of 65 and 66.
 #[test]
 fn every_label_at_each_place() {
-    for rows in [1, 63, 64] {
+    for (rows, other) in [1, 63, 64, 65, 66]
+        .iter()
+        .flat_map(|&rows| [0, 1, 2].map(|other| (rows, other)))
+    {
         for row in 0..rows {
-            let (others, one) = (!above(rows) - (1 << row), 1 << row);
             for label in 0..=255 {
-                let mut labels = vec![1; rows];
+                let mut labels = vec![other; rows];
                 labels[row] = label;
                 let right = match label {
-                    0 => Ok((others, 0, rows - 1)),
-                    1 => Ok((others + one, 0, rows)),
-                    2 => Ok((others + one, one, rows)),
-                    _ => Err(9),
+                    _ if rows > MAX_ROWS => Err(2),
+                    3.. => Err(9),
+                    _ => {
+                        let (others, one) = (!above(rows) - (1 << row), 1 << row);
+                        let of = |label: u8, bits: u64, least: u8| if label < least { 0 } else { bits };
+                        let ones = |least: u8| of(other, others, least) + of(label, one, least);
+                        let heard = if other > 0 { rows - 1 } else { 0 };
+                        Ok((ones(1), ones(2), heard + usize::from(label > 0)))
+                    }
                 };
                 labels_by_hand(&labels, right);
             }
@@ -255,7 +288,8 @@ fn one_row(rows: usize, row: usize, label: u8) -> Vec<u8> {
     labels
 }
 
-/// A one at each place, of the heard word, of the receiver word, and of both, for each row count: "a one from the row count up can't be carried".
+/// A one at each place, of the heard word, of the receiver word, and of both, for each row count: one from the row
+/// count up is refused by 9.
 #[test]
 fn single_ones() {
     for rows in 0..=66 {
@@ -277,7 +311,8 @@ fn single_ones() {
     }
 }
 
-/// The receiver bit of each row of each row count, where it is the only row that is heard, and the only one that is not.
+/// The receiver bit of each row of each row count, where it is the only row that is heard, and the only one that is
+/// not.
 #[test]
 fn receiver_bits_of_rows_not_heard() {
     for rows in 1..=MAX_ROWS {
@@ -293,7 +328,8 @@ fn receiver_bits_of_rows_not_heard() {
     }
 }
 
-/// "The must bit is 1 for marks 1, 3 and 5": every mark at each place of 1, 63 and 64 rows, of which the others must be heard; and 65 marks.
+/// Marks 1, 3 and 5 have a one: every mark at each place of 1, 63 and 64 rows, of which the others must be heard; and
+/// 65 marks.
 #[test]
 fn every_mark_at_each_place() {
     let musts = [mark::MUST, mark::MUST_1, mark::MUST_2];
@@ -323,30 +359,30 @@ fn every_mark_at_each_place() {
 fn clash_words_by_hand() {
     type Case<'a> = (Kind, u16, u16, &'a [(u16, u16)], &'a [u64]);
     let (round, run) = (Kind::Round, Kind::Run([[0, 50], [40, 100]]));
-    let p2: &[(u16, u16)] = &[(10, 30), (20, 40), (25, 50), (90, 10)];
-    let p9: &[(u16, u16)] = &[(45, 60), (50, 60), (0, 50)];
+    let four: &[(u16, u16)] = &[(10, 30), (20, 40), (25, 50), (90, 10)];
+    let three: &[(u16, u16)] = &[(45, 60), (50, 60), (0, 50)];
     let cases: [Case; 31] = [
         (round, 2, 0, &[], &[]),
         (run, 43_200, 600, &[], &[]),
         (round, 100, 600, &[(3, 1)], &[0]),
         (round, 100, 600, &[(3, 3)], &[0]),
         (run, 100, 600, &[(0, 100)], &[0]),
-        // rows 0 to 2 of P2 overlap each other, and row 3 ends where row 0 starts, 10 ticks before row 1 and 15 before row 2
-        (round, 100, 0, p2, &[0b0110, 0b0101, 0b0011, 0]),
-        (round, 100, 1, p2, &[0b1110, 0b0101, 0b0011, 0b0001]),
-        (round, 100, 10, p2, &[0b1110, 0b0101, 0b0011, 0b0001]),
-        (round, 100, 11, p2, &[0b1110, 0b1101, 0b0011, 0b0011]),
-        (round, 100, 16, p2, &[0b1110, 0b1101, 0b1011, 0b0111]),
+        // rows 0 to 2 overlap each other, and row 3 ends where row 0 starts, 10 ticks before row 1 and 15 before row 2
+        (round, 100, 0, four, &[0b0110, 0b0101, 0b0011, 0]),
+        (round, 100, 1, four, &[0b1110, 0b0101, 0b0011, 0b0001]),
+        (round, 100, 10, four, &[0b1110, 0b0101, 0b0011, 0b0001]),
+        (round, 100, 11, four, &[0b1110, 0b1101, 0b0011, 0b0011]),
+        (round, 100, 16, four, &[0b1110, 0b1101, 0b1011, 0b0111]),
         (round, 10, 0, &[(0, 4), (3, 8), (7, 1)], &[0b110, 0b101, 0b011]),
         (round, 10, 0, &[(8, 2), (2, 8)], &[0, 0]),
         (round, 10, 1, &[(8, 2), (2, 8)], &[0b10, 0b01]),
         (round, 10, 0, &[(4, 5), (4, 5), (4, 5)], &[0b110, 0b101, 0b011]),
-        // P9, in which no receiver can hear row 1 beside row 0, and receiver 1 alone can hear row 2
-        (run, 100, 0, p9, &[0b110, 0b001, 0b001]),
-        (run, 100, 1, p9, &[0b110, 0b101, 0b011]),
+        // no receiver can hear row 1 beside row 0, and receiver 1 alone can hear row 2, which ends where row 1 starts
+        (run, 100, 0, three, &[0b110, 0b001, 0b001]),
+        (run, 100, 1, three, &[0b110, 0b101, 0b011]),
         (round, 2, 0, &[(0, 1), (1, 0)], &[0, 0]),
         (round, 2, 1, &[(0, 1), (1, 0)], &[0b10, 0b01]),
-        // "the gaps on both sides must do": from 3 to 5 there are 2 ticks, from 9 on to 0 one
+        // in a round both sides count: from 3 to 5 there are 2 ticks, from 9 on to 0 one
         (round, 10, 1, &[(0, 3), (5, 9)], &[0, 0]),
         (round, 10, 2, &[(0, 3), (5, 9)], &[0b10, 0b01]),
         (round, 10, 2, &[(5, 9), (0, 3)], &[0b10, 0b01]),
@@ -356,7 +392,13 @@ fn clash_words_by_hand() {
         (run, 10, 6, &[(8, 10), (0, 2)], &[0, 0]),
         (run, 10, 7, &[(8, 10), (0, 2)], &[0b10, 0b01]),
         // a window that sends all day overlaps every other
-        (round, 10, 0, &[(3, 3), (7, 7), (0, 1), (5, 6)], &[0b1110, 0b1101, 0b0011, 0b0011]),
+        (
+            round,
+            10,
+            0,
+            &[(3, 3), (7, 7), (0, 1), (5, 6)],
+            &[0b1110, 0b1101, 0b0011, 0b0011],
+        ),
         // the longest gap, on either side
         (round, 43_200, 600, &[(0, 21_000), (21_600, 42_600)], &[0, 0]),
         (round, 43_200, 600, &[(0, 21_001), (21_600, 42_600)], &[0b10, 0b01]),
@@ -381,7 +423,9 @@ fn clash_words_of_64_rows() {
     for kind in [Kind::Round, OPEN] {
         let table = many(kind, 64);
         windows_by_hand(&table, Ok(&[0; 64]));
-        let touching: Vec<u64> = (0..64u64).map(|i| if i == 63 { 1 << 62 } else { 1 << (i + 1) | (1 << i) / 2 }).collect();
+        let touching: Vec<u64> = (0..64u64)
+            .map(|i| if i == 63 { 1 << 62 } else { 1 << (i + 1) | (1 << i) / 2 })
+            .collect();
         windows_by_hand(&table.clone().with_gap(1), Ok(&touching));
         let all: Vec<u64> = (0..64).map(|i| !(1 << i)).collect();
         windows_by_hand(&table.with_gap(600), Ok(&all));
@@ -426,7 +470,8 @@ fn every_two_windows() {
     assert!(clashing.iter().all(|&times| times > 5_000), "{clashing:?}");
 }
 
-/// Windows of a tick, of which the second starts 597 to 603 ticks after the first ends, in either order, in a round over the end of the day too.
+/// Windows of a tick, of which the second starts 597 to 603 ticks after the first ends, in either order, in a round
+/// over the end of the day too.
 #[test]
 fn gaps_about_600() {
     for ticks in [700, 1_210, 43_200u32] {
@@ -435,7 +480,8 @@ fn gaps_about_600() {
                 for first in [0, 1, 90, ticks - between - 3, ticks - 300, ticks - 1] {
                     let tick = |after: u32| ((first + after) % ticks) as u16;
                     let windows = [(tick(0), tick(1)), (tick(1 + between), tick(2 + between))];
-                    let in_run = windows[0].0 < windows[0].1 && windows[0].1 < windows[1].0 && windows[1].0 < windows[1].1;
+                    let in_run =
+                        windows[0].0 < windows[0].1 && windows[0].1 < windows[1].0 && windows[1].0 < windows[1].1;
                     if kind != Kind::Round && !in_run {
                         continue;
                     }
@@ -454,25 +500,55 @@ fn gaps_about_600() {
     }
 }
 
-/// Rounds and runs of any R, with gaps and rows that send all day.
+/// The table with so many ticks for each.
+fn longer(table: &Table, times: u16) -> Table {
+    let mut longer = table.clone();
+    longer.ticks *= times;
+    longer.gap *= times;
+    longer
+        .starts
+        .iter_mut()
+        .chain(&mut longer.ends)
+        .for_each(|tick| *tick *= times);
+    longer
+}
+
+/// Rounds and runs of any R, with gaps and rows that send all day. With each tick made as many as R and the gap allow
+/// the same rows clash.
 #[test]
 fn random_windows() {
     let mut sequence = Sequence::new(1_200);
-    let (mut by_gap, mut all_day, mut days) = ([0; 2], 0, [0; 2]);
+    let (mut by_gap, mut all_day, mut days, mut made_longer) = ([0; 2], 0, [0; 2], 0);
     for turn in 0..6_000 {
-        let rows = if turn % 16 == 0 { 64 } else { sequence.within(0, 24) as usize };
+        let rows = if turn % 16 == 0 {
+            64
+        } else {
+            sequence.within(0, 24) as usize
+        };
         let table = random_setting(&mut sequence, rows);
         let call = windows_call(&table);
         let right = call.given(&RIGHT);
         assert_eq!(compare(&call, &right), 0, "{call:?}");
+        let times = (43_200 / table.ticks).min(MAX_GAP.checked_div(table.gap).unwrap_or(MAX_GAP));
+        assert_eq!(
+            library(&windows_call(&longer(&table, times))),
+            right,
+            "{times} times {call:?}"
+        );
+        let clash = |given: &Given| given.words.iter().any(|&word| word > 0);
+        made_longer += u32::from(times > 1 && right.as_ref().is_ok_and(clash));
         let round = table.kind == Kind::Round;
         let gap_decides = windows_call(&table.clone().with_gap(0)).given(&RIGHT) != right;
         count(&mut by_gap, [gap_decides && round, gap_decides && !round]);
-        count(&mut days, [table.ticks == 43_200 && round, table.ticks == 43_200 && !round]);
+        count(
+            &mut days,
+            [table.ticks == 43_200 && round, table.ticks == 43_200 && !round],
+        );
         all_day += u32::from(round && (0..rows).any(|i| table.starts[i] == table.ends[i]));
     }
     println!("by the gap: {by_gap:?}; with rows that send all day: {all_day}; R 43,200: {days:?}");
     assert!(by_gap.iter().all(|&times| times > 500) && all_day > 500 && days.iter().all(|&times| times > 200));
+    assert!(made_longer > 2_000, "{made_longer} longer days with rows that clash");
 }
 
 #[test]
@@ -484,7 +560,7 @@ fn benchmark_tables_and_gaps() {
     }
 }
 
-/// "Whatever the marks and hours": other hours, wrong ones too, give the same words. Marks are not lent.
+/// Other hours, wrong ones too, give the same words. Marks are not lent.
 #[test]
 fn hours_make_no_difference() {
     let mut sequence = Sequence::new(1_210);
@@ -496,7 +572,12 @@ fn hours_make_no_difference() {
         }
         let right = library(&windows_call(&table));
         assert!(right.is_ok(), "{table:?}");
-        for hours in [[[0, 0]; 2], [[0, table.ticks]; 2], [[1, 0], [0, 1]], [[65_535, 0], [0, 65_535]]] {
+        for hours in [
+            [[0, 0]; 2],
+            [[0, table.ticks]; 2],
+            [[1, 0], [0, 1]],
+            [[65_535, 0], [0, 65_535]],
+        ] {
             table.kind = Kind::Run(hours);
             assert_eq!(library(&windows_call(&table)), right, "{table:?}");
         }
@@ -600,8 +681,8 @@ fn ticks_and_gaps_at_the_limits() {
     }
 }
 
-/// Windows on both sides of the rules, as the first row, the last and one between: "start and end are both below R"; start equal to end in a round; in a run end R, and start
-/// below end.
+/// Windows that are just taken and just refused, as the first row, the last and one between: in a round start and end
+/// are below R, and may be equal; in a run start is below end, and end is at most R.
 #[test]
 fn windows_at_the_limits() {
     for ticks in [2, 100, 43_200] {
@@ -624,7 +705,11 @@ fn windows_at_the_limits() {
                     let mut windows = vec![(0, 1); 41];
                     windows[row] = (start, end);
                     let refusal = agree(&windows_call(&windows_of(kind, ticks, &windows)));
-                    assert_eq!(refusal, if holds { 0 } else { 6 }, "{start} to {end} of {ticks} {kind:?}");
+                    assert_eq!(
+                        refusal,
+                        if holds { 0 } else { 6 },
+                        "{start} to {end} of {ticks} {kind:?}"
+                    );
                 }
             }
         }
@@ -643,7 +728,14 @@ fn lists_of_unequal_length() {
                 let (table, longer) = (many(kind, rows), many(kind, other));
                 refused(&table, other as usize, 1);
                 let starts = longer.starts.clone();
-                refused(&Table { starts, ..table.clone() }, rows as usize, 1);
+                refused(
+                    &Table {
+                        starts,
+                        ..table.clone()
+                    },
+                    rows as usize,
+                    1,
+                );
                 let ends = longer.ends.clone();
                 refused(&Table { ends, ..table.clone() }, rows as usize, 1);
             }
@@ -666,7 +758,11 @@ fn random_labels(sequence: &mut Sequence) -> Call {
     let mut labels: Vec<u8> = (0..rows).map(|_| sequence.within(0, 2) as u8).collect();
     if rows > 0 && sequence.one_in(3) {
         for _ in 0..sequence.within(1, 2) {
-            labels[sequence.within(0, rows as u32 - 1) as usize] = if sequence.one_in(2) { 3 } else { sequence.within(3, 255) as u8 };
+            labels[sequence.within(0, rows as u32 - 1) as usize] = if sequence.one_in(2) {
+                3
+            } else {
+                sequence.within(3, 255) as u8
+            };
         }
     }
     Call::Labels(labels)
@@ -744,7 +840,7 @@ fn random_calls() {
     }
 }
 
-/// How many calls tell the right meaning of the request from each that misreads it.
+/// How many calls tell the rules from each misreading of them.
 #[test]
 fn calls_tell_misreadings() {
     let mut sequence = Sequence::new(1_230);
@@ -763,16 +859,29 @@ fn calls_tell_misreadings() {
     }
 }
 
-/// The best plan of a table, its labels with one changed, and any labels, judged by the library's words: what is a plan by them is one by the papers.
+/// The best plan of a table, its labels with one changed, and any labels, judged by the library's words: what is a plan
+/// by them is one by the rules.
 #[test]
 fn plans_judged_by_words() {
     let mut sequence = Sequence::new(1_240);
     let mut judged = [0; 2];
     for turn in 0..3_000 {
-        let rows = if turn % 20 == 0 { 64 } else { sequence.within(1, 12) as usize };
+        let rows = if turn % 20 == 0 {
+            64
+        } else {
+            sequence.within(1, 12) as usize
+        };
         let table = random_setting(&mut sequence, rows);
         let mut words = vec![0; rows];
-        clashes(table.kind, table.ticks, table.gap, &table.starts, &table.ends, &mut words).unwrap();
+        clashes(
+            table.kind,
+            table.ticks,
+            table.gap,
+            &table.starts,
+            &table.ends,
+            &mut words,
+        )
+        .unwrap();
         let must = of_marks(&table.marks).unwrap();
         let mut lists = vec![(0..rows).map(|_| sequence.within(0, 2) as u8).collect::<Vec<u8>>()];
         let mut labels = vec![0; rows];
@@ -788,7 +897,7 @@ fn plans_judged_by_words() {
             let given = of_labels(&labels).unwrap();
             assert_eq!(given.count, ones(given.heard));
             let is_plan = is_plan(&table, &labels, [given.heard, given.receiver], must, &words);
-            assert_eq!(is_plan, papers::is_plan(&RULES, &table, &labels), "{table:?} {labels:?}");
+            assert_eq!(is_plan, rules::is_plan(&RULES, &table, &labels), "{table:?} {labels:?}");
             count(&mut judged, [is_plan, !is_plan]);
         }
     }

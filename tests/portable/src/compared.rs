@@ -28,7 +28,11 @@ fn print_call(function: Function, mut given: Given, mut proved: Given, mut porta
     for &list in LISTS {
         let (places, other) = (proved.places(list), portable.places(list));
         if places != other {
-            println!("    {list:?}: {}, by the portable crate {}", told(&places), told(&other));
+            println!(
+                "    {list:?}: {}, by the portable crate {}",
+                told(&places),
+                told(&other)
+            );
         }
         with_list!(given, list, places => places.clear());
     }
@@ -44,14 +48,20 @@ fn compare(function: Function, given: &Given) -> Option<u64> {
         (by_portable(function, &mut portable), portable)
     });
     let Ok((other, portable)) = called else {
-        println!("calls: FAILED: {}: {answer:?}, and a panic in the portable crate", function.name());
+        println!(
+            "calls: FAILED: {}: {answer:?}, and a panic in the portable crate",
+            function.name()
+        );
         print_call(function, given.clone(), proved.clone(), proved);
         return None;
     };
     if (&other, &portable) == (&answer, &proved) {
         return Some(function.refusal(&answer, &proved.out));
     }
-    println!("calls: FAILED: {}: {answer:?}, by the portable crate {other:?}", function.name());
+    println!(
+        "calls: FAILED: {}: {answer:?}, by the portable crate {other:?}",
+        function.name()
+    );
     print_call(function, given.clone(), proved, portable);
     None
 }
@@ -82,14 +92,20 @@ fn compare_function(function: Function, calls: usize) -> bool {
                 scope.spawn(move || compare_many(function, part, (function as u64) << 32 | t as u64))
             })
             .collect();
-        started.into_iter().map(|thread| thread.join().expect("a thread that ends")).collect()
+        started
+            .into_iter()
+            .map(|thread| thread.join().expect("a thread that ends"))
+            .collect()
     });
     let mut gave: BTreeMap<u64, usize> = function.gives().iter().map(|refusal| (*refusal, 0)).collect();
     for (refusal, times) in tallies.iter().flat_map(|tally| &tally.gave) {
         *gave.entry(*refusal).or_default() += times;
     }
     let differ: usize = tallies.iter().map(|tally| tally.differ).sum();
-    let times: Vec<String> = gave.iter().map(|(refusal, times)| format!("{refusal}: {times}")).collect();
+    let times: Vec<String> = gave
+        .iter()
+        .map(|(refusal, times)| format!("{refusal}: {times}"))
+        .collect();
     println!(
         "{}: {} calls, {differ} differ; refusals {}",
         function.name(),
@@ -98,7 +114,10 @@ fn compare_function(function: Function, calls: usize) -> bool {
     );
     let missed = gave.values().any(|times| *times == 0);
     if missed {
-        println!("calls: FAILED: {} was not called so that it gives each of its refusals", function.name());
+        println!(
+            "calls: FAILED: {} was not called so that it gives each of its refusals",
+            function.name()
+        );
     }
     differ == 0 && !missed
 }
@@ -106,6 +125,9 @@ fn compare_function(function: Function, calls: usize) -> bool {
 /// So many calls of every function.
 pub fn compare_all(calls: usize) -> bool {
     std::panic::set_hook(Box::new(|_| {}));
-    let same: Vec<bool> = FUNCTIONS.iter().map(|function| compare_function(*function, calls)).collect();
+    let same: Vec<bool> = FUNCTIONS
+        .iter()
+        .map(|function| compare_function(*function, calls))
+        .collect();
     !same.contains(&false)
 }

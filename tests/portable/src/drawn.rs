@@ -50,7 +50,9 @@ fn windows(sequence: &mut Sequence, is_run: bool, ticks: u32, rows: usize) -> (V
         let must = sequence.one_in(8) as u8;
         lists.0.push(start);
         lists.1.push(end);
-        lists.2.push(if plain { 0 } else { one_of(sequence, &[0, 2, 4]) + must });
+        lists
+            .2
+            .push(if plain { 0 } else { one_of(sequence, &[0, 2, 4]) + must });
     }
     lists
 }
@@ -105,16 +107,30 @@ pub fn whole(sequence: &mut Sequence, function: Function) -> Given {
     let mut given = Given {
         ticks: ticks as u16,
         gap: one_of(sequence, &[0, 0, 1, MAX_GAP]).min(sequence.within(0, 600) as u16),
-        hours: random_hours(sequence, ticks).as_flattened().try_into().expect("four hours"),
+        hours: random_hours(sequence, ticks)
+            .as_flattened()
+            .try_into()
+            .expect("four hours"),
         tick: sequence.within(0, ticks - 1) as u16,
         ..Given::default()
     };
-    let rows = row_count(sequence, if function == Function::HeldAdd { MAX_ROWS - 1 } else { MAX_ROWS });
+    let rows = row_count(
+        sequence,
+        if function == Function::HeldAdd {
+            MAX_ROWS - 1
+        } else {
+            MAX_ROWS
+        },
+    );
     (given.starts, given.ends, given.marks) = windows(sequence, is_run, ticks, rows);
     let tried = row_count(sequence, 64).min(if sequence.one_in(50) { 64 } else { 6 });
     (given.candidate_starts, given.candidate_ends, given.candidate_marks) = windows(sequence, is_run, ticks, tried);
     (given.numbers, given.counts) = (filled(sequence, tried), filled(sequence, tried));
-    let spare = if sequence.one_in(4) { sequence.within(1, 40) as usize } else { 0 };
+    let spare = if sequence.one_in(4) {
+        sequence.within(1, 40) as usize
+    } else {
+        0
+    };
     given.space = filled(sequence, SPACE_BYTES + spare);
     given.out = filled(sequence, REPLY_BYTES + spare);
     given.labels = filled(sequence, rows);
@@ -240,15 +256,23 @@ fn damage_length(sequence: &mut Sequence, given: &mut Given) {
             3 => resize(sequence, &mut given.numbers),
             _ => resize(sequence, &mut given.counts),
         },
-        5 => given.space.resize(one_of(sequence, &[0, 1, SPACE_BYTES - 1, SPACE_BYTES + 1]), 7),
-        6 => given.out.resize(one_of(sequence, &[0, 8, 20, REPLY_BYTES - 1, REPLY_BYTES]), 7),
+        5 => given
+            .space
+            .resize(one_of(sequence, &[0, 1, SPACE_BYTES - 1, SPACE_BYTES + 1]), 7),
+        6 => given
+            .out
+            .resize(one_of(sequence, &[0, 8, 20, REPLY_BYTES - 1, REPLY_BYTES]), 7),
         _ => lengthen(sequence, given),
     }
 }
 
 /// Changes a place of a list.
 fn damage_place(sequence: &mut Sequence, given: &mut Given) {
-    let (number, mark, label) = (word(sequence), one_of(sequence, &[1, 3, 5, 6, 255]), one_of(sequence, &[0, 1, 2, 3, 255]));
+    let (number, mark, label) = (
+        word(sequence),
+        one_of(sequence, &[1, 3, 5, 6, 255]),
+        one_of(sequence, &[0, 1, 2, 3, 255]),
+    );
     match sequence.within(0, 4) {
         0 => poke(sequence, &mut given.starts, number),
         1 => poke(sequence, &mut given.ends, number),

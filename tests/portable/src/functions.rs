@@ -144,7 +144,10 @@ impl Function {
 /// The refusal that a reply tells; 10 where there was no room for one.
 fn refusal_told(reply: &[u8]) -> u64 {
     match reply.strip_prefix(b"refused ") {
-        Some(number) => String::from_utf8_lossy(number).trim_end().parse().expect("a number after `refused`"),
+        Some(number) => String::from_utf8_lossy(number)
+            .trim_end()
+            .parse()
+            .expect("a number after `refused`"),
         None if reply.is_empty() => 10,
         None => 0,
     }

@@ -102,7 +102,10 @@ impl Given {
 /// A list as its places up to the last that differs from the one at its end, and what all after these are.
 pub fn front_and_rest(places: &[u64]) -> (&[u64], u64) {
     let rest = places.last().copied().unwrap_or(0);
-    let front = places.iter().rposition(|place| *place != rest).map_or(0, |last| last + 1);
+    let front = places
+        .iter()
+        .rposition(|place| *place != rest)
+        .map_or(0, |last| last + 1);
     (&places[..front], rest)
 }
 

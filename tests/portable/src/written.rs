@@ -160,7 +160,7 @@ fn functions_of(kind: Kind) -> (Function, Function) {
     }
 }
 
-/// Paper 01's session: the table planned, its plan written, the tape played, and the reply to its fleet tape.
+/// The session: the table planned, its plan written, the tape played, and the reply to its fleet tape.
 fn session(records: &mut Records) {
     let table = Table {
         starts: vec![10, 20, 25, 90],
@@ -184,7 +184,14 @@ fn session(records: &mut Records) {
     );
     records.steps("", &tape[..length], 8, 300);
     let tape = fleet_tape(&given_of(&table), false);
-    records.call(Function::Reply, "", Given { tape, ..given_of(&table) });
+    records.call(
+        Function::Reply,
+        "",
+        Given {
+            tape,
+            ..given_of(&table)
+        },
+    );
 }
 
 /// Calls of each function until it has given each of its refusals three times. Gives how many that are.
@@ -224,7 +231,12 @@ fn large(records: &mut Records, sequence: &mut Sequence) -> usize {
     for &function in FUNCTIONS {
         for _ in 0..10 {
             let mut given = whole(sequence, function);
-            while if function.has_places() { given.rows } else { given.starts.len() } < 48 {
+            while if function.has_places() {
+                given.rows
+            } else {
+                given.starts.len()
+            } < 48
+            {
                 given = whole(sequence, function);
             }
             records.call(function, "", given);
@@ -263,7 +275,12 @@ fn day(records: &mut Records) {
     let (table, labels) = in_turn(1);
     let mut tape = vec![0; PLAN_TAPE_BYTES];
     let length = table.write_plan(&labels, &mut tape).expect("a plan");
-    records.steps("a day of a player, 43,200 steps", &tape[..length], 0, table.ticks.into());
+    records.steps(
+        "a day of a player, 43,200 steps",
+        &tape[..length],
+        0,
+        table.ticks.into(),
+    );
 }
 
 /// Calls whose lists have 65,536 places and more: each list of a call alone, of just so many places and of so many more than it has, which

@@ -1,2 +1,0 @@
--- What the contracts of the crate `words_calls` cite.
-pub mod Judged
