@@ -1,8 +1,9 @@
-/* Candidates in C: before a casting, windows are tried against a hub's table. Each is tried alone, as one that must be heard. Prints each answer, and then how the call ends for a
- * table that has no plan itself.
+/* Candidates in C: windows are tried against a table before any of them is added. Each is tried alone, as one that must
+ * be heard. Prints each answer, and then how the call ends for a table that has no plan itself.
  *
  *   tools/build library
- *   gcc -std=c99 -Wall -Wextra -Werror -Iinclude examples/candidates.c target/staticlib/libhub_c.a -o target/candidates && target/candidates
+ *   gcc -std=c99 -Wall -Wextra -Werror -Iinclude examples/candidates.c target/staticlib/libhub_c.a -o target/candidates
+ *   target/candidates
  */
 #include "hubplan.h"
 
@@ -25,13 +26,15 @@ static uint8_t space[HUB_SPACE_BYTES];
 
 static struct hub_tried try_candidates(void)
 {
-    return hub_try_candidates_round(100, 0, starts, ROWS, ends, ROWS, marks, ROWS, candidate_starts, CANDIDATES, candidate_ends, CANDIDATES, candidate_marks, CANDIDATES,
-                                    numbers, CANDIDATES, counts, CANDIDATES, space, sizeof space);
+    return hub_try_candidates_round(100, 0, starts, ROWS, ends, ROWS, marks, ROWS, candidate_starts, CANDIDATES,
+                                    candidate_ends, CANDIDATES, candidate_marks, CANDIDATES, numbers, CANDIDATES,
+                                    counts, CANDIDATES, space, sizeof space);
 }
 
 static void print_answer(size_t i)
 {
-    printf("%u to %u with mark %u: ", (unsigned)candidate_starts[i], (unsigned)candidate_ends[i], (unsigned)candidate_marks[i]);
+    printf("%u to %u with mark %u: ", (unsigned)candidate_starts[i], (unsigned)candidate_ends[i],
+           (unsigned)candidate_marks[i]);
     if (numbers[i] == HUB_ACCEPTED)
         printf("heard %u with it\n", (unsigned)counts[i]);
     else

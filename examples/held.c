@@ -1,8 +1,9 @@
-/* A held table in C: beacons are dropped and die, and after each change the plan of all rows is there again. Prints how each change ends and the labels that are held then, and
- * at last the bytes of the plan tape.
+/* A held table in C: beacons are dropped and die, and after each change the plan of all rows is there again. Prints how
+ * each change ends and the labels that are held then, and at last the bytes of the plan tape.
  *
  *   tools/build library
- *   gcc -std=c99 -Wall -Wextra -Werror -Iinclude examples/held.c target/staticlib/libhub_c.a -o target/held && target/held
+ *   gcc -std=c99 -Wall -Wextra -Werror -Iinclude examples/held.c target/staticlib/libhub_c.a -o target/held
+ *   target/held
  */
 #include "hubplan.h"
 
@@ -40,7 +41,8 @@ static int print_tape(void)
 {
     uint8_t tape[HUB_PLAN_TAPE_BYTES];
     size_t rows = table.numbers.rows;
-    struct hub_answer written = hub_write_plan_round(table.numbers.ticks, table.numbers.gap, table.starts, rows, table.ends, rows, table.marks, rows, table.labels, rows,
+    struct hub_answer written = hub_write_plan_round(table.numbers.ticks, table.numbers.gap, table.starts, rows,
+                                                     table.ends, rows, table.marks, rows, table.labels, rows,
                                                      tape, sizeof tape);
     if (written.refusal != HUB_ACCEPTED)
         return 1;

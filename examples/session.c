@@ -1,8 +1,9 @@
-/* Paper 01's session in C: plans the round P2 with a gap and without one and prints the labels, then the bytes of the plan tape, then what hubplan prints for the fleet tape,
- * then what a player of the plan tape tells at some ticks.
+/* A whole session in C: plans a round of four rows with a gap and without one and prints the labels, then the bytes of
+ * the plan tape, then what hubplan prints for the fleet tape, then what a player of the plan tape tells at some ticks.
  *
  *   tools/build library
- *   gcc -std=c99 -Wall -Wextra -Werror -Iinclude examples/session.c target/staticlib/libhub_c.a -o target/session && target/session
+ *   gcc -std=c99 -Wall -Wextra -Werror -Iinclude examples/session.c target/staticlib/libhub_c.a -o target/session
+ *   target/session
  */
 #include "hubplan.h"
 
@@ -29,7 +30,8 @@ static int refused(const char *what, unsigned number)
 /* Plans the round with a gap and prints the labels; 1 where it is refused. */
 static int print_plan(uint16_t gap, uint8_t labels[ROWS])
 {
-    struct hub_answer plan = hub_plan_round(ticks, gap, starts, ROWS, ends, ROWS, marks, ROWS, labels, ROWS, space, sizeof space);
+    struct hub_answer plan = hub_plan_round(ticks, gap, starts, ROWS, ends, ROWS, marks, ROWS, labels, ROWS,
+                                            space, sizeof space);
     if (plan.refusal != HUB_ACCEPTED)
         return refused("plan", plan.refusal);
     printf("gap %u: heard %u, labels", (unsigned)gap, (unsigned)plan.count);
@@ -74,7 +76,8 @@ int main(void)
         return 1;
 
     uint8_t tape[HUB_PLAN_TAPE_BYTES];
-    struct hub_answer written = hub_write_plan_round(ticks, 0, starts, ROWS, ends, ROWS, marks, ROWS, labels, ROWS, tape, sizeof tape);
+    struct hub_answer written = hub_write_plan_round(ticks, 0, starts, ROWS, ends, ROWS, marks, ROWS, labels, ROWS,
+                                                     tape, sizeof tape);
     if (written.refusal != HUB_ACCEPTED)
         return refused("plan tape", written.refusal);
     printf("plan tape of %u bytes", (unsigned)written.count);
@@ -82,7 +85,8 @@ int main(void)
         printf(" %02X", (unsigned)tape[i]);
 
     /* a buffer of one byte less is refused */
-    struct hub_answer too_short = hub_write_plan_round(ticks, 0, starts, ROWS, ends, ROWS, marks, ROWS, labels, ROWS, tape, written.count - 1);
+    struct hub_answer too_short = hub_write_plan_round(ticks, 0, starts, ROWS, ends, ROWS, marks, ROWS, labels, ROWS,
+                                                       tape, written.count - 1);
     printf("\nbuffer of %u bytes: refused %u\n", (unsigned)written.count - 1, (unsigned)too_short.refusal);
 
     uint8_t text[HUB_REPLY_BYTES];

@@ -1,8 +1,10 @@
-/* One bit per row in C: the labels of a plan as two words and back, and for each row a word of those that no receiver can hear beside it. Prints the words of paper 01's session, and
- * what its plan is where a receiver needs a gap.
+/* One bit per row in C: the labels of a plan as two words and back, and for each row a word of those that no receiver
+ * can hear beside it. Prints the words of the plan that examples/session.c makes with a gap of 0, and whether it holds
+ * with a gap of 0 and of 1.
  *
  *   tools/build library
- *   gcc -std=c99 -Wall -Wextra -Werror -Iinclude examples/words.c target/staticlib/libhub_c.a -o target/words && target/words
+ *   gcc -std=c99 -Wall -Wextra -Werror -Iinclude examples/words.c target/staticlib/libhub_c.a -o target/words
+ *   target/words
  */
 #include "hubplan.h"
 
@@ -10,7 +12,7 @@
 
 #define ROWS 4
 
-/* P2, a round of 100 ticks */
+/* a round of 100 ticks */
 static const uint16_t starts[ROWS] = {10, 20, 25, 90};
 static const uint16_t ends[ROWS] = {30, 40, 50, 10};
 static const uint8_t marks[ROWS] = {HUB_MAY, HUB_MAY, HUB_MAY, HUB_MAY};
@@ -55,7 +57,9 @@ static int print_clashes(uint16_t gap, const struct hub_label_words *words)
 
 int main(void)
 {
-    if (hub_plan_round(100, 0, starts, ROWS, ends, ROWS, marks, ROWS, labels, ROWS, space, sizeof space).refusal != HUB_ACCEPTED)
+    struct hub_answer plan = hub_plan_round(100, 0, starts, ROWS, ends, ROWS, marks, ROWS, labels, ROWS,
+                                            space, sizeof space);
+    if (plan.refusal != HUB_ACCEPTED)
         return 1;
     struct hub_label_words words = hub_words_of_labels(labels, ROWS);
     if (words.refusal != HUB_ACCEPTED)
