@@ -1,14 +1,14 @@
 -- The commands of rows and their marks: the range and the difference by which bytes are read agree with the commands by
 -- which a tape is defined. One computed test speaks of every command, and one of every mark.
-use Prim.Native.Nat.{ℕ, suc, ◌≤◌, ◌<◌}
-use mathlib.Core.Path.{◌≡◌, refl}
+use Prim.Native.Nat.{ℕ, suc, ◌+◌, ◌≤◌, ◌<◌}
+use mathlib.Core.Path.{◌≡◌, refl, ap}
 use mathlib.Core.Logic.{◌↔◌}
 use mathlib.Core.Bool.{true}
 use native.Mathlib.Omega.{arith}
 use Rattle.basics.specs.Tests.{every}
 use Rattle.std.proofs.lemmas.Bool.Decides.{Decides-eqb}
 use Rattle.basics.proofs.Tests.{every_iff, and_iff, imp_iff, leb_iff}
-use Rattle.tape.specs.Commands.{WINDOW, MUST2, operand_bytes}
+use Rattle.tape.specs.Commands.{WINDOW, MUST2, operand_bytes, command_bytes}
 use Rattle.fleet_tape.specs.Fleet.{row_command}
 use Rattle.fleet_tape.specs.Form.{is_row, mark_of}
 
@@ -38,3 +38,7 @@ marked x e =
 pub mark_back : (m : ℕ) → m < 6 → (is_row (row_command m) ≡ true) × (mark_of (row_command m) ≡ m)
 unfolding every
 mark_back = (every_iff 6 (λ m h. and_iff (λ e. e, λ e. e) (Decides-eqb (mark_of (row_command m)) m))).0 refl
+
+-- the command of a row takes five bytes with its operands
+pub row_bytes : (x : ℕ) → is_row x ≡ true → command_bytes x ≡ 5
+row_bytes x h = ap (λ n. 1 + n) (marked x h).width

@@ -15,7 +15,9 @@ ghost use Rattle.basics.specs.Lists.{front};
 
 use basics::MAX_ROWS;
 use refusals::Refusal;
-use tape::{HOURS, MUST2, OPERAND_BYTES, ROUND, RUN, WINDOW, after, is_stop, word_at};
+use tape::{
+    HOURS, MUST2, OPERAND_BYTES, ROUND, RUN, WINDOW, after, command_bytes, is_stop, word_at,
+};
 use window::Kind;
 
 // The bytes of a row: a command, and its operands as the table of widths has them. Rows of every mark are laid out as
@@ -91,11 +93,19 @@ fn mark_of(command: u8) -> u8
     command - WINDOW
 }
 
-// Whether each piece begins with a row's command.
+// Whether a byte is a row's command, and the table of widths gives it the bytes of a piece.
+#[tactic(auto, using(crate::proofs::Marks::row_bytes))]
+fn is_piece(command: u8) -> bool
+    ensures { result ≡ is_row command }
+{
+    is_row(command) && command_bytes(command) == ROW_BYTES
+}
+
+// Whether each piece is a row's command with its operands.
 fn all_rows(pieces: &[[u8; ROW_BYTES]]) -> bool
     ensures { result ≡ all_rows pieces.now }
 {
-    pieces.iter().all(|piece| is_row(piece[0]))
+    pieces.iter().all(|piece| is_piece(piece[0]))
 }
 
 // The rows, where bytes are rows and then STOP.

@@ -45,7 +45,7 @@ pub enum Item {
 
 // The LISTEN that stands first and the bytes after it.
 #[tactic(auto, using(crate::proofs::Items::listen_whole))]
-fn split_listen(tape: &[u8]) -> Option<(Listen, &[u8])>
+pub fn split_listen(tape: &[u8]) -> Option<(Listen, &[u8])>
     ensures { MatchOption result (begins LISTEN tape.now ≡ false) (λ p. (begins LISTEN tape.now ≡ true) × (p.0 ≡ listen_at tape.now) × (p.1.now ≡ after LISTEN tape.now)) }
 {
     let rest = after(tape, LISTEN)?;
@@ -102,12 +102,15 @@ impl<'a> PlanReader<'a> {
         PlanReader { at, ..self }
     }
 
-    // What is left of the tape.
+    // What is left of the tape. The test in place of `min` saves a step of the player time.
     #[tactic(auto, using(std::proofs::lemmas::List::drop_min))]
-    fn left(self) -> &'a [u8]
+    pub fn left(self) -> &'a [u8]
         ensures { result.now ≡ left self.entry }
     {
-        &self.tape[self.at.min(self.tape.len())..]
+        if self.tape.len() <= self.at {
+            return &self.tape[self.tape.len()..];
+        }
+        &self.tape[self.at..]
     }
 
     // Takes the LISTEN that stands first, and stands after it; the reader stays where none does.

@@ -1,6 +1,7 @@
 -- Laws of the player, the theorem that it follows its tape, and worked examples.
 pub mod Steps
 pub mod Finding
+pub mod Walking
 pub mod Telling
 pub mod Following
 pub mod Starting

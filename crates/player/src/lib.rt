@@ -11,8 +11,9 @@ ghost use Rattle.player.specs.Told.{telling};
 ghost use Rattle.player.specs.Played.{player_at, state_of, resting, stepped, finished_tick, started_of, started};
 ghost use Rattle.player.specs.Follows.{IsFinished, StartsPlayer};
 
-use plan_reader::{Head, Item, Listen, PlanReader};
+use plan_reader::{Head, Item, PlanReader, split_listen};
 use refusals::Refusal;
+use window::Window;
 
 // What a receiver does at a tick: it is idle, or it listens to a row until the end of the row's window.
 #[derive(Clone, Copy, Debug, PartialEq, Eq)]
@@ -51,16 +52,11 @@ struct Moment {
 }
 
 impl Moment {
-    // What a receiver does, if it did `before` so far and has the LISTEN too.
-    fn tell(self, before: Receiver, listen: Listen) -> Receiver
-        ensures { result ≡ cond (lies_in self.head.kind self.head.ticks listen.window.start listen.window.end self.tick) (Listening listen.row listen.window.end) before }
+    // Whether the tick lies in a window.
+    fn lies_in(self, window: Window) -> bool
+        ensures { result ≡ lies_in self.head.kind self.head.ticks window.start window.end self.tick }
     {
-        let Listen { row, window } = listen;
-        if window.lies_at(self.head.kind, self.head.ticks, self.tick) {
-            let until = window.end;
-            return Receiver::Listening { row, until };
-        }
-        before
+        window.lies_at(self.head.kind, self.head.ticks, self.tick)
     }
 
     // What the LISTENs that stand first tell. The reader goes on after them.
@@ -70,9 +66,18 @@ impl Moment {
         ensures rest { left reader.new ≡ after_listens (left reader.old) }
     {
         let mut receiver = Receiver::Idle;
-        while let Some(listen) = reader.listen() {
-            receiver = self.tell(receiver, listen);
+        let left = reader.left();
+        let mut rest = left;
+        while let Some((listen, after)) = split_listen(rest) {
+            rest = after;
+            if self.lies_in(listen.window) {
+                receiver = Receiver::Listening {
+                    row: listen.row,
+                    until: listen.window.end,
+                };
+            }
         }
+        reader.at += left.len() - rest.len();
         receiver
     }
 

@@ -25,6 +25,17 @@ fn first_label(perm: u8) -> u8
     }
 }
 
+// Copies a list of the same length byte by byte: for `copy_from_slice` the library needs `memmove` from outside.
+#[tactic(auto, using(basics::proofs::Filling::filled_none, basics::proofs::Filling::filled_more))]
+fn copy(from: &[u8], to: &mut [u8])
+    requires { length to.old ≡ length from.now }
+    ensures { to.new ≡ from.now }
+{
+    for i in 0..from.len() {
+        to[i] = from[i];
+    }
+}
+
 // Writes the permissions where labels found stand, to be taken back if an attempt finds none.
 fn keep(perms: &[u8], space: &mut [u8])
     requires few { length perms.now ≤ max_rows }
@@ -32,7 +43,7 @@ fn keep(perms: &[u8], space: &mut [u8])
     ensures kept { Kept perms.now space.new }
     ensures space_unchanged { drop next_from space.new ≡ drop next_from space.old }
 {
-    space[FOUND_FROM..FOUND_FROM + perms.len()].copy_from_slice(perms);
+    copy(perms, &mut space[FOUND_FROM..FOUND_FROM + perms.len()]);
 }
 
 // Leaves the next rows from i on that have more than one label their first label, as many as `several`.
@@ -70,7 +81,7 @@ fn take_found(
 {
     let reached = rows.find_labels(perms, cap, left, space);
     let n = perms.len();
-    perms.copy_from_slice(&space[FOUND_FROM..FOUND_FROM + n]);
+    copy(&space[FOUND_FROM..FOUND_FROM + n], perms);
     reached
 }
 

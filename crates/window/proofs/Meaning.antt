@@ -3,7 +3,7 @@
 use Prim.Native.Nat.{ℕ, zero, suc, ◌+◌, ◌-◌, ◌≤◌, ◌<◌}
 use mathlib.Core.Path.{◌≡◌, refl, ◌∙◌, ap, sym}
 use mathlib.Core.Logic.{◌≢◌, ◌↔◌, ◌⊎◌, inl, inr, ⊎_elim}
-use mathlib.Core.Bool.{Bool, true, cond, ◌&&◌, ◌||◌, false≢true, or-true}
+use mathlib.Core.Bool.{Bool, true, false, cond, ◌&&◌, ◌||◌, false≢true, or-true}
 use native.Mathlib.Omega.{arith}
 use native.Mathlib.Decide.{ℕ_discrete}
 use native.Mathlib.Nat.{le_of_lt}
@@ -15,7 +15,7 @@ use Rattle.basics.proofs.Tests.{Test, pass, fail, test, bool_ext, and_iff}
 use Rattle.window.specs.declared.Kind.{Kind}
 use Rattle.window.specs.declared.Kind.TheVariants.{Round, Run}
 use Rattle.window.specs.Ticks.{Ticks, distance}
-use Rattle.window.specs.Windows.{next, walk, Covers, Overlap, Window, covers, ticks_in, lies_in, overlaps}
+use Rattle.window.specs.Windows.{next, walk, Covers, Overlap, Window, is_window, covers, ticks_in, lies_in, overlaps}
 use Rattle.window.proofs.Circle.{distance_after, distance_before}
 pub use Rattle.window.proofs.Windows.{window_iff, window_end, window_start}
 
@@ -274,6 +274,19 @@ module _ (kind : Kind) (R s e : ℕ) (w : Window kind R s e) where
       (λ x. in_covers s e t (near.1 (ltb-true (distance R s t) (ticks_in kind R s e) x)))
 
 -- ---- a tick in a window, on any numbers
+
+pub lies_covers : (kind : Kind) (R s e t : ℕ) → lies_in kind R s e t ≡ (is_window kind R s e && ltb t R && covers s e t)
+unfolding lies_in
+lies_covers kind R s e t = go (is_window kind R s e) refl (ltb t R) refl
+  where
+    go : (a : Bool) → is_window kind R s e ≡ a → (b : Bool) → ltb t R ≡ b
+        → (is_window kind R s e && ltb t R && ltb (distance R s t) (ticks_in kind R s e)) ≡ (is_window kind R s e && ltb t R && covers s e t)
+    go true p true q = ap (λ x. is_window kind R s e && ltb t R && x) (sym (covers_near kind R s e ((window_iff kind R s e).0 p) t (ltb-true t R q)))
+    go true p false q = rw (p, q) refl
+    go false p b q = rw p refl
+
+pub lies_within : (kind : Kind) (R s e t : ℕ) → is_window kind R s e ≡ true → t < R → covers s e t ≡ lies_in kind R s e t
+lies_within kind R s e t p h = sym (lies_covers kind R s e t ∙ rw (p, lt-ltb t R h) refl)
 
 pub lies_iff : (kind : Kind) (R s e t : ℕ) → (lies_in kind R s e t ≡ true) ↔ (Window kind R s e × (t < R) × Covers kind R s e t)
 unfolding lies_in

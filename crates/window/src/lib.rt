@@ -100,14 +100,12 @@ impl Window {
     }
 
     // Whether start and end make a window of a round or a run of `ticks` ticks and the tick lies in it, on any numbers.
-    #[tactic(auto, unfolding(crate::specs::Windows::lies_in))]
+    #[tactic(auto, using(crate::proofs::Meaning::lies_covers))]
     pub fn lies_at(self, kind: Kind, ticks: u16, tick: u16) -> bool
         ensures computed { result ≡ lies_in kind ticks self.start self.end tick }
         ensures meaning { (result ≡ true) ↔ (Proper kind ticks self.start self.end × (tick < ticks) × Covers kind ticks self.start self.end tick) }
     {
-        self.is_proper(kind, ticks)
-            && tick < ticks
-            && distance(ticks, self.start, tick) < self.length(kind, ticks)
+        self.is_proper(kind, ticks) && tick < ticks && self.covers(tick)
     }
 
     // Whether two windows overlap. Of windows that fail check 6 it is what `overlaps` computes, and says nothing about

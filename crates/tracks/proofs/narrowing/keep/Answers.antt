@@ -7,7 +7,7 @@ use Rattle.tracks.proofs.Turns.{kept_between}
 use Rattle.tracks.proofs.narrowing.keep.Goals as goal
 
 pub returns-clause-kept : goal.returns-clause-kept
-returns-clause-kept c = kept_between c.args.perms.now _ (between-put_mid found_from _ c.args.space.now _ _ (omega arith) (omega arith) ∙ c.copy_from_slice.ensures.after)
+returns-clause-kept c = kept_between c.args.perms.now _ (between-put_mid found_from _ c.args.space.now _ _ (omega arith) (omega arith) ∙ c.copy.ensures)
 
 pub returns-clause-space_unchanged : goal.returns-clause-space_unchanged
 returns-clause-space_unchanged c = drop-put_mid found_from _ c.args.space.now _ next_from (omega arith) (omega arith) (omega arith)

@@ -9,9 +9,9 @@ pub find_labels-reached-requires-clause-cap_most : goal.find_labels-reached-requ
 find_labels-reached-requires-clause-cap_most c = places_most c.requires.ready.rows c.requires.permuted c.requires.most
 
 pub returns-clause-kept : goal.returns-clause-kept
-returns-clause-kept c = kept_between c.copy_from_slice.new.self _ (rw c.copy_from_slice.ensures.len (sym c.copy_from_slice.ensures.after))
+returns-clause-kept c = kept_between c.copy.new.to _ (rw c.copy.auto.to (sym c.copy.ensures))
 
 pub returns-clause-found : goal.returns-clause-found
 returns-clause-found c =
     let R = c.requires.ready.rows in
-    found_outcome R c.requires.permuted R.each_perm c.copy_from_slice.ensures.len R.few c.find_labels-reached.ensures.found (returns-clause-kept c)
+    found_outcome R c.requires.permuted R.each_perm c.copy.auto.to R.few c.find_labels-reached.ensures.found (returns-clause-kept c)
