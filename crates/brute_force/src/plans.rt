@@ -27,12 +27,16 @@ impl Found {
         self.plan.map_or([0; 8], |plan| plan.labels)
     }
 
-    // One plan more. It takes the place of the first best only if it hears more.
-    fn with_plan(self, plan: Plan) -> Found {
+    // One plan more, the list of a number, which hears so many rows. It takes the place of the first best only if it
+    // hears more.
+    fn with_plan(self, rows: usize, number: u16, heard: u8) -> Found {
         let plans = self.plans.wrapping_add(1);
-        match self.plan.map(|best| best.heard).cmp(&Some(plan.heard)) {
+        match self.plan.map(|best| best.heard).cmp(&Some(heard)) {
             Ordering::Less => Found {
-                plan: Some(plan),
+                plan: Some(Plan {
+                    heard,
+                    labels: labels(rows, number),
+                }),
                 plans,
                 best: 1,
             },
@@ -123,14 +127,26 @@ pub fn judge(labels: &[u8], rules: &[Rules; 8]) -> Option<u8> {
     Some(receivers.heard)
 }
 
+// How many rows the list of a number hears, if it is a plan: as `judge` says of its labels, which are not made. It goes
+// from the last row on, as the digits come: clashes go both ways, so it makes no difference.
+fn judge_list(rows: usize, number: u16, rules: &[Rules; 8]) -> Option<u8> {
+    let mut receivers = Receivers::default();
+    let mut rest = number;
+    for row in (0..rows.min(8)).rev() {
+        let label = ORDER[usize::from(rest % 3)];
+        receivers = receivers.with_row(one(row), rules[row], label)?;
+        rest /= 3;
+    }
+    Some(receivers.heard)
+}
+
 // Tries every label list of the first `rows` rows, at most 7.
 pub fn search(rows: usize, rules: &[Rules; 8]) -> Found {
     let count = rows.min(7);
     let mut found = Found::default();
     for number in 0..LISTS[count] {
-        let labels = labels(count, number);
-        if let Some(heard) = judge(&labels[..count], rules) {
-            found = found.with_plan(Plan { heard, labels });
+        if let Some(heard) = judge_list(count, number, rules) {
+            found = found.with_plan(count, number, heard);
         }
     }
     found
