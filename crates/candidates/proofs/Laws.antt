@@ -157,6 +157,10 @@ module _ (t : Table) (c : CandidateLists) (numbers counts space : List ℕ) wher
       go true e = f (eqb-true (number_of reports.refusal) 0 e)
       go false e = g (eqb-false (number_of reports.refusal) 0 e)
 
+  -- what a call reports is what the visit does
+  pub call_reports : call.reports ≡ reports
+  call_reports = call_either (λ g. g.reports ≡ reports) (λ p. refl) (λ n. refl)
+
   -- ---- the answers
 
   -- a refused call leaves the answers
